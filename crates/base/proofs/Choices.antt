@@ -1,0 +1,20 @@
+-- The laws of a choice: down one branch, down the other, and by cases.
+use mathlib.Core.Bool.{Bool, true, false}
+use mathlib.Core.Path.{_≡_, refl}
+use Rattle.base.specs.Choice.{if_then_else_}
+
+-- the test holds
+pub on-true : {A : Type 0} {t : Bool} {r x : A} (y : A) → t ≡ true → r ≡ x → r ≡ if t then x else y
+unfolding if_then_else_
+on-true y e h = rw e h
+
+-- the test fails
+pub on-false : {A : Type 0} {t : Bool} {r y : A} (x : A) → t ≡ false → r ≡ y → r ≡ if t then x else y
+unfolding if_then_else_
+on-false x e h = rw e h
+
+-- what holds of both branches, each with the test's value in hand, holds of the choice
+pub by-test : {A : Type 0} (P : A → Type 0) (t : Bool) (x y : A) → (t ≡ true → P x) → (t ≡ false → P y) → P (if t then x else y)
+unfolding if_then_else_
+by-test P true x y p q = p refl
+by-test P false x y p q = q refl

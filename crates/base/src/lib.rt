@@ -1,0 +1,1 @@
+// No code: definitions and laws that the other crates share.
