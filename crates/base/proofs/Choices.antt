@@ -1,5 +1,5 @@
 -- The laws of a choice: down one branch, down the other, and by cases.
-use mathlib.Core.Bool.{Bool, true, false}
+use mathlib.Core.Bool.{Bool, true, false, false≢true}
 use mathlib.Core.Path.{_≡_, refl}
 use Rattle.base.specs.Choice.{if_then_else_}
 
@@ -18,3 +18,14 @@ pub by-test : {A : Type 0} (P : A → Type 0) (t : Bool) (x y : A) → (t ≡ tr
 unfolding if_then_else_
 by-test P true x y p q = p refl
 by-test P false x y p q = q refl
+
+-- a chain of tests that ends in true: what its first test was
+pub both-true : (t x : Bool) → (if t then x else false) ≡ true → (t ≡ true) × (x ≡ true)
+unfolding if_then_else_
+both-true true x e = (refl, e)
+both-true false x e = absurd (false≢true e)
+
+pub first-false : (t x : Bool) → (if t then false else x) ≡ true → (t ≡ false) × (x ≡ true)
+unfolding if_then_else_
+first-false true x e = absurd (false≢true e)
+first-false false x e = (refl, e)
