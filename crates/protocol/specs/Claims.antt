@@ -1,0 +1,96 @@
+-- What is claimed. The proofs are `quorums`, `masks`, `invariance` and `theory` in proofs/Theory.
+use mathlib.Core.Path.{_≡_}
+use mathlib.Core.Logic.{_↔_}
+use mathlib.Core.Bool.{Bool, true, false}
+use mathlib.Core.List.{List, _∷_, List·Memᴰ}
+use Prim.Native.Nat.{ℕ, _+_, _*_, _^_, _≤_, _<_}
+use Rattle.base.specs.Numbers.{quorum}
+use Rattle.protocol.specs.Mask.{bit, setBit, countBelow}
+use Rattle.protocol.specs.Quorum.{count, AtLeast, Majority}
+use Rattle.protocol.specs.View.{View, Chosen, Returns, Transition, Start}
+use Rattle.protocol.specs.Invariant.{Inv}
+use Rattle.protocol.specs.Trace.{Box, Event, read, issued, took, refused, view, Beaten, Step, Run}
+
+-- Sets of boxes.
+pub record Quorums : Type 1 where
+  -- q boxes are more than half of n, and fewer are not
+  pub half : (n k : ℕ) → quorum n ≤ k ↔ n < 2 * k
+  -- a set of q boxes, each of which has P, is a majority that has P
+  pub enough : (n : ℕ) (P : ℕ → Type 0) (s : ℕ → Bool) → quorum n ≤ count s n → ((b : ℕ) → b < n → s b ≡ true → P b) → Majority n P
+  -- two majorities of the same boxes share a box
+  pub shared : (n : ℕ) (P Q : ℕ → Type 0) → Majority n P → Majority n Q → (b : ℕ) × (b < n) × P b × Q b
+
+-- Sets of boxes as masks.
+pub record Masks : Type 1 where
+  pub empty : (b : ℕ) → bit 0 b ≡ false
+  -- the box added is in the set, and the others are as before
+  pub same : (m b : ℕ) → bit (setBit m b) b ≡ true
+  pub other : (m b j : ℕ) → ¬ (j ≡ b) → bit (setBit m b) j ≡ bit m j
+  -- the ones of the n low digits are the boxes below n in the set
+  pub counted : (m n : ℕ) → countBelow m n ≡ count (bit m) n
+  -- a box below n that was not there is one more; one that was there, or is not below n, changes nothing
+  pub more : (m b n : ℕ) → b < n → bit m b ≡ false → countBelow (setBit m b) n ≡ countBelow m n + 1
+  pub present : (m b n : ℕ) → bit m b ≡ true → countBelow (setBit m b) n ≡ countBelow m n
+  pub past : (m b n : ℕ) → n ≤ b → countBelow (setBit m b) n ≡ countBelow m n
+  -- masks that agree below n count alike
+  pub agree : (m k n : ℕ) → ((b : ℕ) → b < n → bit m b ≡ bit k b) → countBelow m n ≡ countBelow k n
+  -- a mask of k digits stays one where a box below k is added: a u16 where k is 16
+  pub fits : (k m b : ℕ) → m < 2 ^ k → b < k → setBit m b < 2 ^ k
+  -- q ones below n, each of a box that has P, are a majority that has P
+  pub enough : (P : ℕ → Type 0) (m n : ℕ) → quorum n ≤ countBelow m n → ((b : ℕ) → b < n → bit m b ≡ true → P b) → Majority n P
+
+module _ {A : Type 0} (_⊑_ : A → A → Type 0) where
+  infix 20 _⊑_
+  -- What is asked of the relation "may follow".
+  pub record Preorder : Type 0 where
+    pub reflexive : (v : A) → v ⊑ v
+    pub transitive : (u v w : A) → u ⊑ v → v ⊑ w → u ⊑ w
+
+-- What is asked of "offered": what was offered stays offered.
+abbrev pub Persistent : {A N : Type 0} → (List (Event A N) → A → Type 0) → Type 0
+Persistent {A} {N} Offered = (e : Event A N) (l : List (Event A N)) (v : A) → Offered l v → Offered (e ∷ l) v
+
+module _ {A : Type 0} (n : ℕ) (_⊑_ : A → A → Type 0) where
+  infix 20 _⊑_
+  -- A value chosen at a rank is settled: every value issued at a higher rank, earlier or later, follows it.
+  abbrev pub Settled : View A → Type 0
+  Settled σ = (s r : ℕ) (u v : A) → Chosen n σ s u → σ .Issued r v → s < r → u ⊑ v
+
+  -- Of two chosen values the one of the higher rank follows the other.
+  abbrev pub Agreement : View A → Type 0
+  Agreement σ = (s r : ℕ) (u v : A) → Chosen n σ s u → Chosen n σ r v → s ≤ r → u ⊑ v
+
+  -- The invariant: the start has it, each step keeps it, and what is chosen is then settled.
+  pub record Invariance : Type 1 where
+    pub start : (σ : View A) → Start σ → Inv n _⊑_ σ
+    pub step : (σ τ : View A) → Transition n _⊑_ σ τ → Inv n _⊑_ σ → Inv n _⊑_ τ
+    pub chosen : (σ τ : View A) (r : ℕ) (v : A) → Transition n _⊑_ σ τ → Chosen n σ r v → Chosen n τ r v
+    pub settled : (σ : View A) → Inv n _⊑_ σ → Settled σ
+    pub agreement : (σ : View A) → Inv n _⊑_ σ → Agreement σ
+
+module _ {A N : Type 0} (n : ℕ) (_⊑_ : A → A → Type 0) (Offered : List (Event A N) → A → Type 0) (x : ℕ → Box A) (l : List (Event A N)) where
+  -- What holds of the boxes x and the history l of a run.
+  pub record Claims : Type 0 where
+    -- Lemma 2, Safety of one register: an answer above the start rank was issued, and it sees each lower-ranked write that the box
+    -- takes
+    pub answer-issued : (r b w : ℕ) (v : A) → List·Memᴰ (read r b w v) l → 0 < w → List·Memᴰ (issued w v) l
+    pub answer-sees : (r b w : ℕ) (v : A) → List·Memᴰ (read r b w v) l → (s : ℕ) → List·Memᴰ (took s b) l → s < r → s ≤ w
+    -- Lemmas 3 and 6, Non-Triviality: a write that a box refused and did not take was beaten by a higher rank served at that box;
+    -- it was so before the write was refused
+    pub beaten : (r b : ℕ) → 0 < r → List·Memᴰ (refused r b) l → ¬ List·Memᴰ (took r b) l → Beaten l r b
+    pub beaten-before : (y : ℕ → Box A) (r b : ℕ) → 0 < r → Step n _⊑_ Offered x l y (refused r b) → ¬ List·Memᴰ (took r b) l → Beaten l r b
+    -- Lemma 5, Safety over a majority: what a read returns above the start rank was issued, and it sees each lower-ranked write that
+    -- a majority takes
+    pub returned-issued : (r w : ℕ) (v : A) → Returns n (view Offered x l) r w v → 0 < w → List·Memᴰ (issued w v) l
+    pub returned-sees : (r w : ℕ) (v : A) → Returns n (view Offered x l) r w v → (s : ℕ) (u : A) → Chosen n (view Offered x l) s u → s < r → s ≤ w
+    -- Lemma 1
+    pub settled : Settled n _⊑_ (view Offered x l)
+    -- Theorem 1: agreement, and validity: each value issued was offered, before it was issued
+    pub agreement : Agreement n _⊑_ (view Offered x l)
+    pub validity : (r : ℕ) (v : A) → List·Memᴰ (issued r v) l → Offered l v
+    pub offered-before : (y : ℕ → Box A) (r : ℕ) (v : A) → Step n _⊑_ Offered x l y (issued r v) → Offered l v
+
+-- The theorem.
+abbrev pub Theory : Type 1
+Theory = (A N : Type 0) (n : ℕ) (⊑ : A → A → Type 0) (Offered : List (Event A N) → A → Type 0)
+    → Preorder ⊑ → Persistent Offered → (x : ℕ → Box A) (l : List (Event A N)) → Run n ⊑ Offered x l → Claims n ⊑ Offered x l
