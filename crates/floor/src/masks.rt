@@ -1,0 +1,45 @@
+// A set of boxes as the bits of a mask.
+ghost use mathlib.Core.Path.{_≡_};
+ghost use Prim.Native.Nat.{_<_, _≤_};
+ghost use Rattle.base.specs.Numbers.{quorum};
+ghost use Rattle.protocol.specs.Mask.{bit, setBit, countBelow};
+ghost use Rattle.floor.specs.State.{atQuorum};
+
+pub fn has(mask: u16, b: u8) -> bool
+    requires { ⌜ b < 16 ⌝ }
+    ensures { λ r. ⌜ r ≡ bit mask b ⌝ }
+{
+    (mask >> b) & 1 == 1
+}
+
+pub fn with_bit(mask: u16, b: u8) -> u16
+    requires { ⌜ b < 16 ⌝ }
+    ensures { λ r. ⌜ r ≡ setBit mask b ⌝ }
+{
+    mask | (1 << b)
+}
+
+// How many of the boxes below n are in the mask.
+fn count_below(mask: u16, n: u8) -> u32
+    requires { ⌜ n ≤ 9 ⌝ }
+    ensures { λ r. ⌜ r ≡ countBelow mask n ⌝ }
+{
+    let all: u16 = 1 << n;
+    u16::count_ones(mask & (all - 1))
+}
+
+// The size of a quorum of n boxes, a majority.
+fn majority(n: u8) -> u32
+    requires { ⌜ n ≤ 9 ⌝ }
+    ensures { λ r. ⌜ r ≡ quorum n ⌝ }
+{
+    (n >> 1) as u32 + 1
+}
+
+// The boxes below n in the mask are exactly a quorum.
+pub fn at_quorum(mask: u16, n: u8) -> bool
+    requires { ⌜ n ≤ 9 ⌝ }
+    ensures { λ r. ⌜ r ≡ atQuorum mask n ⌝ }
+{
+    count_below(mask, n) == majority(n)
+}

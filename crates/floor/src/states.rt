@@ -1,0 +1,115 @@
+// Tests of a station's state, of a request's stage and of the floor's numbers.
+ghost use mathlib.Core.Path.{_≡_};
+ghost use mathlib.Core.Bool.{false};
+ghost use Prim.Native.Nat.{_<_};
+ghost use Rattle.base.specs.Choice.{if_then_else_};
+ghost use Rattle.base.specs.Numbers.{sizesRight};
+ghost use Rattle.floor.specs.State.{isGone, isBusy, isReading, isWriting, standing, isWaiting, isOnTheWay};
+use crate::Phase;
+use crate::Stage;
+
+pub fn and(x: bool, y: bool) -> bool
+    ensures { λ r. ⌜ r ≡ if x then y else false ⌝ }
+{
+    if x {
+        return y;
+    }
+    false
+}
+
+// Refusal 3 does not apply.
+pub fn sizes_right(n: u8, m: u8) -> bool
+    ensures { λ r. ⌜ r ≡ sizesRight n m ⌝ }
+{
+    if n < 1 {
+        return false;
+    }
+    if 9 < n {
+        return false;
+    }
+    if m < 1 {
+        return false;
+    }
+    if 16 < m {
+        return false;
+    }
+    true
+}
+
+pub fn gone(s: Phase) -> bool
+    ensures { λ r. ⌜ r ≡ isGone s ⌝ }
+{
+    match s {
+        Phase::Idle => false,
+        Phase::Reading(_) => false,
+        Phase::Writing(_) => false,
+        Phase::Decided(_) => false,
+        Phase::Gone => true,
+    }
+}
+
+pub fn busy(s: Phase) -> bool
+    ensures { λ r. ⌜ r ≡ isBusy s ⌝ }
+{
+    match s {
+        Phase::Idle => false,
+        Phase::Reading(_) => true,
+        Phase::Writing(_) => true,
+        Phase::Decided(_) => true,
+        Phase::Gone => false,
+    }
+}
+
+pub fn reading(s: Phase, a: u8) -> bool
+    ensures { λ r. ⌜ r ≡ isReading s a ⌝ }
+{
+    match s {
+        Phase::Idle => false,
+        Phase::Reading(x) => x == a,
+        Phase::Writing(_) => false,
+        Phase::Decided(_) => false,
+        Phase::Gone => false,
+    }
+}
+
+pub fn writing(s: Phase, a: u8) -> bool
+    ensures { λ r. ⌜ r ≡ isWriting s a ⌝ }
+{
+    match s {
+        Phase::Idle => false,
+        Phase::Reading(_) => false,
+        Phase::Writing(x) => x == a,
+        Phase::Decided(_) => false,
+        Phase::Gone => false,
+    }
+}
+
+// A request waits: its stage says so and its answer was not received.
+pub fn waiting_at(s: Stage, mask: u16, b: u8) -> bool
+    requires { ⌜ b < 16 ⌝ }
+    ensures { λ r. ⌜ r ≡ isWaiting (standing s mask b) ⌝ }
+{
+    if super::masks::has(mask, b) {
+        return false;
+    }
+    match s {
+        Stage::Unissued => false,
+        Stage::Waiting => true,
+        Stage::Answered => false,
+    }
+}
+
+// An answer is on the way: its stage says so and it was not received.
+pub fn on_the_way(s: Stage, mask: u16, b: u8) -> bool
+    requires { ⌜ b < 16 ⌝ }
+    ensures { λ r. ⌜ r ≡ isOnTheWay (standing s mask b) ⌝ }
+{
+    if super::masks::has(mask, b) {
+        return false;
+    }
+    match s {
+        Stage::Unissued => false,
+        Stage::Waiting => false,
+        Stage::Answered => true,
+    }
+}
