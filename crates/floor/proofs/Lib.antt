@@ -1,0 +1,4 @@
+pub mod Shifts
+pub mod Standings
+pub mod Records
+pub mod Ranges
