@@ -30,7 +30,7 @@ decode-spec =
     (λ c κs. search needs)
     (λ c. search needs)
     (λ c κs. search needs)
-    (λ c. on-true _ (search tests) (cc))
+    (λ c. on-true _ (search tests) (rw (c .be32 .ensures, c .before .be16 .ensures)))
     (λ c. on-false _ (search tests) (on-true _ (in-range 2 5 _ (omega arith) (omega arith)) (on-true _ (search tests) (c .request .ensures))))
     (λ c. on-false _ (search tests) (on-true _ (in-range 2 5 _ (omega arith) (omega arith)) (on-false _ (search tests) (refl))))
     (λ c. on-false _ (search tests) (on-false _ (over-range 2 5 _ (omega arith) (omega arith)) (on-true _ (in-range 6 7 _ (omega arith) (omega arith)) (on-true _ (search tests) (c .departure .ensures)))))

@@ -10,4 +10,4 @@ begin-spec =
     (tie.spec
     (λ c κs. search needs)
     (λ c. search needs)
-    (λ c. rw (c .before .new-row .ensures)))
+    (λ c. rw (c .new-row .ensures)))

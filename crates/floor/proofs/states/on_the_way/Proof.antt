@@ -1,5 +1,5 @@
 use borrow.Author.Needs.{needs}
-use Rattle.floor.proofs.Standings.{not-coming, coming-by}
+use Rattle.floor.proofs.StandingTests.{not-coming, coming-by}
 use Rattle.floor.specs.declared.Stage.the-variants.{Unissued, Waiting, Answered}
 use Rattle.floor.proofs.states.on_the_way.Statement.{statement}
 use Rattle.floor.proofs.states.on_the_way.Tie as tie

@@ -1,5 +1,5 @@
 use borrow.Author.Needs.{needs}
-use Rattle.floor.proofs.Standings.{not-waiting, waits-by}
+use Rattle.floor.proofs.StandingTests.{not-waiting, waits-by}
 use Rattle.floor.specs.declared.Stage.the-variants.{Unissued, Waiting, Answered}
 use Rattle.floor.proofs.states.waiting_at.Statement.{statement}
 use Rattle.floor.proofs.states.waiting_at.Tie as tie

@@ -1,0 +1,95 @@
+-- What the tests of refusals 3 and 6 say, both ways, and the laws of a place.
+use Prim.Native.Nat.{ℕ, zero, suc, _<_, _≤_}
+use native.Mathlib.Omega.{arith}
+use native.Mathlib.Nat.{le-refl}
+use native.Mathlib.Numerals.{add-one}
+use mathlib.Core.Path.{_≡_, refl, sym}
+use mathlib.Core.Bool.{true, false}
+use mathlib.Core.List.{List}
+use lib.Dec.{ltb}
+use lib.ListN.{getD}
+use borrow.Author.Count.{below-more}
+use borrow.Author.Tests.{ltb-true, ltb-false, lt-ltb, le-ltb}
+use Rattle.base.specs.Numbers.{sizesRight}
+use Rattle.base.proofs.Choices.{on-true, on-false, by-test, both-true, first-false}
+use Rattle.floor.specs.State.{row0}
+use Rattle.floor.specs.Sound.{stationsBelow, soundOf, Sound}
+use Rattle.floor.specs.Commands.{placeIn}
+use Rattle.floor.specs.declared.Row.{Row}
+use Rattle.floor.specs.declared.Floor.{Floor}
+
+-- refusal 3 does not apply
+pub record Sizes (n m : ℕ) : Type 0 where
+  pub box-least : 1 ≤ n
+  pub box-most : n ≤ 9
+  pub station-least : 1 ≤ m
+  pub station-most : m ≤ 16
+
+pub sizes-mean : (n m : ℕ) → sizesRight n m ≡ true → Sizes n m
+unfolding sizesRight
+sizes-mean n m e =
+    let p = first-false _ _ e in
+    let q = first-false _ _ (p .1) in
+    let r = first-false _ _ (q .1) in
+    let t = first-false _ _ (r .1) in
+    record { box-least = ltb-false _ _ (p .0); box-most = ltb-false _ _ (q .0); station-least = ltb-false _ _ (r .0); station-most = ltb-false _ _ (t .0) }
+
+pub sizes-hold : (n m : ℕ) → Sizes n m → sizesRight n m ≡ true
+unfolding sizesRight
+sizes-hold n m z =
+    sym (on-false _ (le-ltb _ _ (z .box-least)) (on-false _ (le-ltb _ _ (z .box-most))
+    (on-false _ (le-ltb _ _ (z .station-least)) (on-false _ (le-ltb _ _ (z .station-most)) refl))))
+
+-- each of the first k rows has a station below m
+pub below-all : (rows : List Row) (m k : ℕ) → stationsBelow rows m k ≡ true → (a : ℕ) → a < k → getD rows a row0 .station < m
+unfolding stationsBelow
+below-all rows m zero e a h = absurd (omega arith)
+below-all rows m (suc k) e a h =
+    let p = both-true _ _ e in
+    below-more (λ (i : ℕ). getD rows i row0 .station < m) k (below-all rows m k (p .1)) (ltb-true _ _ (p .0)) a (rw add-one h)
+
+pub all-below : (rows : List Row) (m k : ℕ) → ((a : ℕ) → a < k → getD rows a row0 .station < m) → stationsBelow rows m k ≡ true
+unfolding stationsBelow
+all-below rows m zero h = refl
+all-below rows m (suc k) h = sym (on-true _ (lt-ltb _ _ (h k (le-refl (suc k)))) (sym (all-below rows m k (λ a l. h a (omega arith)))))
+
+-- a floor that passes the test of refusal 6 is sound
+pub sound-means : (f : Floor) → soundOf f ≡ true → Sound f
+unfolding soundOf
+sound-means f e =
+    let p = both-true _ _ e in
+    let z = sizes-mean (f .n) (f .m) (p .0) in
+    let u = first-false _ _ (p .1) in
+    record {
+      box-least = z .box-least;
+      box-most = z .box-most;
+      station-least = z .station-least;
+      station-most = z .station-most;
+      rows-most = ltb-false _ _ (u .0);
+      stations = below-all (f .rows) (f .m) (f .used) (u .1);
+    }
+
+pub sound-sizes : (f : Floor) → Sound f → Sizes (f .n) (f .m)
+sound-sizes f z = record { box-least = z .box-least; box-most = z .box-most; station-least = z .station-least; station-most = z .station-most }
+
+-- and a sound floor passes it
+pub sound-holds : (f : Floor) → Sound f → soundOf f ≡ true
+unfolding soundOf
+sound-holds f z =
+    sym (on-true _ (sizes-hold (f .n) (f .m) (sound-sizes f z))
+    (on-false _ (le-ltb _ _ (z .rows-most)) (sym (all-below (f .rows) (f .m) (f .used) (z .stations)))))
+
+-- a place is one of the array's
+pub place-below : (limit x : ℕ) → 0 < limit → placeIn limit x < limit
+unfolding placeIn
+place-below limit x h = by-test (λ (i : ℕ). i < limit) (ltb x limit) x 0 (λ e. ltb-true x limit e) (λ _. h)
+
+-- a number that is a place of the array names it
+pub place-same : (limit x : ℕ) → x < limit → placeIn limit x ≡ x
+unfolding placeIn
+place-same limit x h = sym (on-true _ (lt-ltb x limit h) refl)
+
+-- one past the end names the first place
+pub place-past : (limit x : ℕ) → limit ≤ x → placeIn limit x ≡ 0
+unfolding placeIn
+place-past limit x h = sym (on-false _ (le-ltb x limit h) refl)
