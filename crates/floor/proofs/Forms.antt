@@ -19,6 +19,7 @@ use Rattle.floor.specs.declared.Phase.the-variants as phase
 use Rattle.floor.specs.declared.Station.{Station}
 use Rattle.floor.specs.declared.Row.{Row}
 use Rattle.floor.specs.declared.Floor.{Floor}
+use Rattle.floor.specs.declared.Parts.{Parts}
 use Rattle.floor.specs.declared.Stepped.{Stepped}
 use Rattle.floor.specs.declared.Outcome.{Outcome}
 use Rattle.floor.specs.declared.Outcome.the-variants as said
@@ -50,6 +51,10 @@ withRow f a w = withRows f (set (f .rows) a w)
 
 abbrev pub stepped : Floor → Outcome → Stepped
 stepped g o = record { floor = g; outcome = o }
+
+-- what a step looks at: the row a, the box b and the station s
+abbrev pub partsAt : Floor → ℕ → ℕ → ℕ → Parts
+partsAt f a b s = record { n = f .n; m = f .m; used = f .used; row = rowAt f a; storage = boxAt f b; station = stationAt f s }
 
 -- the station of the row a
 abbrev pub ownerAt : Floor → ℕ → Station
@@ -98,22 +103,30 @@ afterStop f b = withBox f b (record { register = boxAt f b .register; stopped = 
 abbrev pub afterLeave : Floor → ℕ → Floor
 afterLeave f s = withStation f s (withState (stationAt f s) phase.Gone)
 
--- A step that is accepted on a sound floor leads there.
+-- On a sound floor, for a command that names a row in use, a box and a station of the floor: what it looks at, and that a step
+-- accepted leads to the floors above.
 module _ (f : Floor) (z : Sound f) where
-  pub begin-form : (s round v : ℕ) → s < f .m → f .used < 64
-      → accepted f (Begin s round v) (begun (look f (Begin s round v)) s round v) ≡ stepped (afterBegin f s round v) (said.Begun (f .used))
-  unfolding begun
-  begin-form s round v hs hu = rw (place-same 16 s (omega (arith, z .station-most)), place-same 64 (f .used) hu, set-getD (f .boxes) _ box0)
+  module _ (s round v : ℕ) (hs : s < f .m) (hu : f .used < 64) where
+    pub begin-look : look f (Begin s round v) ≡ partsAt f (f .used) 0 s
+    begin-look = rw (place-same 16 s (omega (arith, z .station-most)), place-same 64 (f .used) hu, place-same 9 0 (omega arith))
+
+    pub begin-form : accepted f (Begin s round v) (begun (look f (Begin s round v)) s round v) ≡ stepped (afterBegin f s round v) (said.Begun (f .used))
+    unfolding begun
+    begin-form = rw (place-same 16 s (omega (arith, z .station-most)), place-same 64 (f .used) hu, set-getD (f .boxes) _ box0)
 
   module _ (a b : ℕ) (ha : a < f .used) (hb : b < f .n) where
-    at-box : placeIn 9 b ≡ b
+    pub at-box : placeIn 9 b ≡ b
     at-box = place-same 9 b (omega (arith, z .box-most))
 
-    at-row : placeIn 64 a ≡ a
+    pub at-row : placeIn 64 a ≡ a
     at-row = place-same 64 a (omega (arith, z .rows-most))
 
-    at-owner : placeIn 16 (rowAt f a .station) ≡ rowAt f a .station
+    pub at-owner : placeIn 16 (rowAt f a .station) ≡ rowAt f a .station
     at-owner = place-same 16 (rowAt f a .station) (omega (arith, z .stations a ha, z .station-most))
+
+    -- a serve and a delivery look at the same parts
+    pub request-look : look f (ServeRead a b) ≡ partsAt f a b (rowAt f a .station)
+    request-look = rw (at-box, at-row, at-owner)
 
     pub serve-read-form : accepted f (ServeRead a b) (servedRead (look f (ServeRead a b)) a b) ≡ stepped (afterServeRead f a b) (said.Served a)
     unfolding servedRead
@@ -122,10 +135,6 @@ module _ (f : Floor) (z : Sound f) where
     pub serve-write-form : accepted f (ServeWrite a b) (servedWrite (look f (ServeWrite a b)) a b) ≡ stepped (afterServeWrite f a b) (said.Served a)
     unfolding servedWrite
     serve-write-form = rw (at-box, at-row, set-getD (f .stations) _ station0)
-
-    -- what a delivery looks at
-    pub deliver-look : look f (DeliverRead a b) ≡ record { n = f .n; m = f .m; used = f .used; row = rowAt f a; storage = boxAt f b; station = ownerAt f a }
-    deliver-look = rw (at-box, at-row, at-owner)
 
     -- an answer received without effect, of a read (`rowHeardRead`) or of a write (`rowHeardWrite`)
     pub received-form : (w : Row → ℕ → Row)
@@ -145,8 +154,16 @@ module _ (f : Floor) (z : Sound f) where
         ≡ stepped (afterAbort f a (writeHeard f a b)) (said.Aborted a)
     abort-form = rw (at-row, at-owner, set-getD (f .boxes) _ box0)
 
-  pub stop-form : (b : ℕ) → b < f .n → accepted f (Stop b) (stoppedBox (look f (Stop b)) b) ≡ stepped (afterStop f b) (said.Stopped b)
-  stop-form b h = rw (place-same 9 b (omega (arith, z .box-most)), set-getD (f .stations) _ station0, set-getD (f .rows) _ row0)
+  module _ (b : ℕ) (hb : b < f .n) where
+    pub stop-look : look f (Stop b) ≡ partsAt f 0 b 0
+    stop-look = rw (place-same 9 b (omega (arith, z .box-most)), place-same 16 0 (omega arith), place-same 64 0 (omega arith))
 
-  pub leave-form : (s : ℕ) → s < f .m → accepted f (Leave s) (goneStation (look f (Leave s)) s) ≡ stepped (afterLeave f s) (said.Gone s)
-  leave-form s h = rw (place-same 16 s (omega (arith, z .station-most)), set-getD (f .boxes) _ box0, set-getD (f .rows) _ row0)
+    pub stop-form : accepted f (Stop b) (stoppedBox (look f (Stop b)) b) ≡ stepped (afterStop f b) (said.Stopped b)
+    stop-form = rw (place-same 9 b (omega (arith, z .box-most)), set-getD (f .stations) _ station0, set-getD (f .rows) _ row0)
+
+  module _ (s : ℕ) (hs : s < f .m) where
+    pub leave-look : look f (Leave s) ≡ partsAt f 0 0 s
+    leave-look = rw (place-same 16 s (omega (arith, z .station-most)), place-same 9 0 (omega arith), place-same 64 0 (omega arith))
+
+    pub leave-form : accepted f (Leave s) (goneStation (look f (Leave s)) s) ≡ stepped (afterLeave f s) (said.Gone s)
+    leave-form = rw (place-same 16 s (omega (arith, z .station-most)), set-getD (f .boxes) _ box0, set-getD (f .rows) _ row0)
