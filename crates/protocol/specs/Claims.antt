@@ -6,7 +6,7 @@ use mathlib.Core.List.{List, _∷_, List·Memᴰ}
 use Prim.Native.Nat.{ℕ, _+_, _*_, _^_, _≤_, _<_}
 use Rattle.base.specs.Numbers.{quorum}
 use Rattle.protocol.specs.Mask.{bit, setBit, countBelow}
-use Rattle.protocol.specs.Quorum.{count, AtLeast, Majority}
+use Rattle.protocol.specs.Quorum.{count, Majority}
 use Rattle.protocol.specs.View.{View, Chosen, Returns, Transition, Start}
 use Rattle.protocol.specs.Invariant.{Inv}
 use Rattle.protocol.specs.Trace.{Box, Event, read, issued, took, refused, view, Beaten, Step, Run}

@@ -53,8 +53,10 @@ module _ {A N : Type 0} where
     by-write : List·Memᴰ (took r b) l → Served l r b
 
   -- A rank above r was served at the box b.
-  pub data Beaten (l : List (Event A N)) (r b : ℕ) : Type 0 where
-    beaten-by : {s : ℕ} → r < s → Served l s b → Beaten l r b
+  pub record Beaten (l : List (Event A N)) (r b : ℕ) : Type 0 where
+    pub rank : ℕ
+    pub higher : r < rank
+    pub served : Served l rank b
 
   module _ (n : ℕ) (_⊑_ : A → A → Type 0) (Offered : List (Event A N) → A → Type 0) where
     infix 20 _⊑_
