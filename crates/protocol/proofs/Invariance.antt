@@ -90,13 +90,13 @@ module _ {A : Type 0} (n : ℕ) (_⊑_ : A → A → Type 0) where
       taken-kept r b t = elim (m .take r b t) [ before o ↦ omega (arith, i .taken r b o, m .writes-up b) | now c e f ↦ omega arith ]
 
       source-kept : (r b w : ℕ) (x : A) → τ .Read r b w x → 0 < w → τ .Issued w x
-      source-kept r b w x d p = elim (m .learn r b w x d) [
+      source-kept r b w x d p = elim (m .answer r b w x d) [
         | before o ↦ m .issued-kept w x (i .source r b w x o p)
         | now c e f ↦ rw (e, f) (held-kept b (omega arith))
       ]
 
       sees-kept : (r b w : ℕ) (x : A) → τ .Read r b w x → (s : ℕ) → s < r → τ .Taken s b → s ≤ w
-      sees-kept r b w x d s h t = elim (m .learn r b w x d) [
+      sees-kept r b w x d s h t = elim (m .answer r b w x d) [
         | before o ↦ elim (m .take s b t) [ before y ↦ i .sees r b w x o s h y | now c e f ↦ omega (arith, i .promised r b w x o) ]
         | now c e f ↦ omega (arith, taken-kept s b t)
       ]
@@ -107,7 +107,7 @@ module _ {A : Type 0} (n : ℕ) (_⊑_ : A → A → Type 0) where
         unique = unique-kept;
         held = held-kept;
         taken = taken-kept;
-        promised = λ r b w x d. elim (m .learn r b w x d) [ before o ↦ omega (arith, i .promised r b w x o, m .reads-up b) | now c e f ↦ c ];
+        promised = λ r b w x d. elim (m .answer r b w x d) [ before o ↦ omega (arith, i .promised r b w x o, m .reads-up b) | now c e f ↦ c ];
         source = source-kept;
         sees = sees-kept;
         safe = λ r v d s p h. safe-kept (elim (m .issue r v d) [ before o ↦ i .safe r v o s p h | now q f ↦ issue-safe i q s p h ]);

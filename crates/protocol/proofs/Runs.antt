@@ -1,4 +1,4 @@
--- Each step of the machine is a step of the view, so every run has the invariant; and a write refused was beaten.
+-- Each step of the machine is a step of the view, so every run has the invariant; and a write refused was outranked.
 use mathlib.Core.Path.{_≡_, refl, sym, ap, subst, _∙_}
 use mathlib.Core.Logic.{inl, inr}
 use mathlib.Core.List.{List, _∷_, List·Memᴰ, List·Memᴰ·head, List·Memᴰ·tail, List·Memᴰ·cases-cons, List·Memᴰ·not-nil}
@@ -6,9 +6,9 @@ use Prim.Native.Nat.{ℕ, _≤_, _<_}
 use native.Mathlib.Decide.{decLe}
 use native.Mathlib.Nat.{eq-or-lt-of-le}
 use native.Mathlib.Omega.{arith}
-use Rattle.protocol.specs.View.{Stored, kept, stored, Took, Learnt, Wrote, MayIssue, Transition}
+use Rattle.protocol.specs.View.{Stored, kept, stored, Took, Answered, Wrote, MayIssue, Transition}
 use Rattle.protocol.specs.Invariant.{Inv}
-use Rattle.protocol.specs.Trace.{Box, readBox, writeBox, Event, read, issued, took, refused, there, other, view, Served, by-read, by-write, Beaten, Step, serve-read, issue, take, refuse, other-event, Run, new, next}
+use Rattle.protocol.specs.Trace.{Box, readBox, writeBox, Event, read, issued, took, refused, there, other, view, Served, by-read, by-write, Outranked, Step, serve-read, issue, take, refuse, other-event, Run, new, next}
 use Rattle.protocol.specs.Claims.{Persistent}
 use Rattle.protocol.proofs.Invariance.{start-inv, transition-inv}
 
@@ -33,8 +33,8 @@ module _ {A N : Type 0} where
   served-more e (by-read m) = by-read (List·Memᴰ·tail m)
   served-more e (by-write m) = by-write (List·Memᴰ·tail m)
 
-  pub beaten-more : {l : List (Event A N)} {r b : ℕ} (e : Event A N) → Beaten l r b → Beaten (e ∷ l) r b
-  beaten-more e k = record { rank = k .rank; higher = k .higher; served = served-more e (k .served) }
+  pub outranked-more : {l : List (Event A N)} {r b : ℕ} (e : Event A N) → Outranked l r b → Outranked (e ∷ l) r b
+  outranked-more e k = record { rank = k .rank; higher = k .higher; served = served-more e (k .served) }
 
   -- the ranks that boxes hold are of attempts served there
   pub record Known (x : ℕ → Box A) (l : List (Event A N)) : Type 0 where
@@ -89,8 +89,8 @@ module _ {A N : Type 0} where
         took-cases : (r b : ℕ) → List·Memᴰ (took r b) (e ∷ l) → Took (view Offered x l) (view Offered y (e ∷ l)) r b
         took-cases r b t = elim (List·Memᴰ·cases-cons t) [ inl q ↦ (let k = took-now (step-as q s) in Took.now (k .0) (k .1) (k .2)) | inr o ↦ Took.before o ]
 
-        read-cases : (r b w : ℕ) (v : A) → List·Memᴰ (read r b w v) (e ∷ l) → Learnt (view Offered x l) (view Offered y (e ∷ l)) r b w v
-        read-cases r b w v t = elim (List·Memᴰ·cases-cons t) [ inl q ↦ (let k = read-now (step-as q s) in Learnt.now (k .0) (k .1) (k .2)) | inr o ↦ Learnt.before o ]
+        read-cases : (r b w : ℕ) (v : A) → List·Memᴰ (read r b w v) (e ∷ l) → Answered (view Offered x l) (view Offered y (e ∷ l)) r b w v
+        read-cases r b w v t = elim (List·Memᴰ·cases-cons t) [ inl q ↦ (let k = read-now (step-as q s) in Answered.now (k .0) (k .1) (k .2)) | inr o ↦ Answered.before o ]
 
         issued-cases : (r : ℕ) (v : A) → List·Memᴰ (issued r v) (e ∷ l) → Wrote n _⊑_ (view Offered x l) (view Offered y (e ∷ l)) r v
         issued-cases r v t = elim (List·Memᴰ·cases-cons t) [
@@ -130,7 +130,7 @@ module _ {A N : Type 0} where
             writes-up = λ b. up b .1;
             store = store-now;
             take = took-cases;
-            learn = read-cases;
+            answer = read-cases;
             issue = issued-cases;
             issued-kept = λ r v t. List·Memᴰ·tail t;
             taken-kept = λ r b t. List·Memᴰ·tail t;
@@ -152,10 +152,10 @@ module _ {A N : Type 0} where
     run-known (new p q) = record { readers = λ b h. absurd (omega (arith, p b)); writers = λ b h. absurd (omega (arith, q b)) }
     run-known (next k s) = known-step s (run-known k)
 
-    -- a write that a box refuses, and did not take, was beaten
-    pub refused-beaten : {x y : ℕ → Box A} {l : List (Event A N)} {r b : ℕ} → Known x l → 0 < r → Step n _⊑_ Offered x l y (refused r b)
-        → ¬ List·Memᴰ (took r b) l → Beaten l r b
-    refused-beaten {x} {b = b} k p (refuse _ c) f = elim c [
+    -- a write that a box refuses, and did not take, was outranked
+    pub refused-outranked : {x y : ℕ → Box A} {l : List (Event A N)} {r b : ℕ} → Known x l → 0 < r → Step n _⊑_ Offered x l y (refused r b)
+        → ¬ List·Memᴰ (took r b) l → Outranked l r b
+    refused-outranked {x} {b = b} k p (refuse _ c) f = elim c [
       | inl h ↦ record { rank = x b .readRank; higher = omega arith; served = k .readers b (omega arith) }
       | inr h ↦ elim (eq-or-lt-of-le h) [
         | inl z ↦ absurd (f (rw z (k .writers b (omega arith))))
@@ -163,10 +163,10 @@ module _ {A N : Type 0} where
       ]
     ]
 
-    pub beaten : {x : ℕ → Box A} {l : List (Event A N)} → Run n _⊑_ Offered x l → (r b : ℕ) → 0 < r → List·Memᴰ (refused r b) l
-        → ¬ List·Memᴰ (took r b) l → Beaten l r b
-    beaten (new _ _) r b p m f = absurd (List·Memᴰ·not-nil m)
-    beaten (next {e = e} k s) r b p m f = beaten-more e (elim (List·Memᴰ·cases-cons m) [
-      | inl q ↦ refused-beaten (run-known k) p (step-as q s) (λ t. f (List·Memᴰ·tail t))
-      | inr o ↦ beaten k r b p o (λ t. f (List·Memᴰ·tail t))
+    pub outranked : {x : ℕ → Box A} {l : List (Event A N)} → Run n _⊑_ Offered x l → (r b : ℕ) → 0 < r → List·Memᴰ (refused r b) l
+        → ¬ List·Memᴰ (took r b) l → Outranked l r b
+    outranked (new _ _) r b p m f = absurd (List·Memᴰ·not-nil m)
+    outranked (next {e = e} k s) r b p m f = outranked-more e (elim (List·Memᴰ·cases-cons m) [
+      | inl q ↦ refused-outranked (run-known k) p (step-as q s) (λ t. f (List·Memᴰ·tail t))
+      | inr o ↦ outranked k r b p o (λ t. f (List·Memᴰ·tail t))
     ])

@@ -49,9 +49,9 @@ pub data Took {A : Type 0} (σ τ : View A) (r b : ℕ) : Type 0 where
   now : σ .readRank b ≤ r → σ .writeRank b < r → r ≤ τ .writeRank b → Took σ τ r b
 
 -- A read raises the box's read rank to its own, and answers what the box holds.
-pub data Learnt {A : Type 0} (σ τ : View A) (r b w : ℕ) (x : A) : Type 0 where
-  before : σ .Read r b w x → Learnt σ τ r b w x
-  now : r ≤ τ .readRank b → w ≡ τ .writeRank b → x ≡ τ .value b → Learnt σ τ r b w x
+pub data Answered {A : Type 0} (σ τ : View A) (r b w : ℕ) (x : A) : Type 0 where
+  before : σ .Read r b w x → Answered σ τ r b w x
+  now : r ≤ τ .readRank b → w ≡ τ .writeRank b → x ≡ τ .value b → Answered σ τ r b w x
 
 -- v ⊑ w says that the value w may follow the value v: equality for consensus, extension for a replicated object.
 module _ {A : Type 0} (n : ℕ) (_⊑_ : A → A → Type 0) where
@@ -76,7 +76,7 @@ module _ {A : Type 0} (n : ℕ) (_⊑_ : A → A → Type 0) where
     pub writes-up : (b : ℕ) → σ .writeRank b ≤ τ .writeRank b
     pub store : (b : ℕ) → Stored σ τ b
     pub take : (r b : ℕ) → τ .Taken r b → Took σ τ r b
-    pub learn : (r b w : ℕ) (x : A) → τ .Read r b w x → Learnt σ τ r b w x
+    pub answer : (r b w : ℕ) (x : A) → τ .Read r b w x → Answered σ τ r b w x
     pub issue : (r : ℕ) (v : A) → τ .Issued r v → Wrote σ τ r v
     pub issued-kept : (r : ℕ) (v : A) → σ .Issued r v → τ .Issued r v
     pub taken-kept : (r b : ℕ) → σ .Taken r b → τ .Taken r b
