@@ -2,7 +2,7 @@
 use Prim.Native.Nat.{ℕ}
 use Rattle.protocol.specs.Claims.{Quorums, Masks, Preorder, Invariance, Theory}
 use Rattle.protocol.proofs.QuorumLaws.{more-than-half, majority-of, majority-meet}
-use Rattle.protocol.proofs.MaskLaws.{bit-zero, bit-same, bit-other, count-bits, count-more, count-present, count-past, count-agree, setBit-fits, mask-majority}
+use Rattle.protocol.proofs.MaskLaws.{bit-zero, bit-same, bit-other, count-bits, count-more, count-present, count-past, count-at-most, count-agree, setBit-fits, mask-majority}
 use Rattle.protocol.proofs.Invariance.{start-inv, transition-inv, chosen-kept, settled, agreement, returns-issued, returns-see, issue-offered}
 use Rattle.protocol.proofs.Runs.{step-transition, run-inv, run-known, issued-now, refused-outranked, outranked}
 
@@ -18,6 +18,7 @@ masks = record {
   more = count-more;
   present = count-present;
   past = count-past;
+  bounded = count-at-most;
   agree = count-agree;
   fits = setBit-fits;
   enough = λ P m n. mask-majority m n;

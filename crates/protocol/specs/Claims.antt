@@ -34,7 +34,8 @@ pub record Masks : Type 1 where
   pub more : (m b n : ℕ) → b < n → bit m b ≡ false → countBelow (setBit m b) n ≡ countBelow m n + 1
   pub present : (m b n : ℕ) → bit m b ≡ true → countBelow (setBit m b) n ≡ countBelow m n
   pub past : (m b n : ℕ) → n ≤ b → countBelow (setBit m b) n ≡ countBelow m n
-  -- masks that agree below n count alike
+  -- so no more than n are counted, and masks that agree below n count alike
+  pub bounded : (m n : ℕ) → countBelow m n ≤ n
   pub agree : (m k n : ℕ) → ((b : ℕ) → b < n → bit m b ≡ bit k b) → countBelow m n ≡ countBelow k n
   -- a mask of k digits stays one where a box below k is added: a u16 where k is 16
   pub fits : (k m b : ℕ) → m < 2 ^ k → b < k → setBit m b < 2 ^ k
