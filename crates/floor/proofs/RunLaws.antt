@@ -1,11 +1,12 @@
 -- The loop of `run`: one record more, by the way that its step takes.
-use Prim.Native.Nat.{ℕ, suc, _+_, _-_, _<_, _≤_}
+use Prim.Native.Nat.{ℕ, suc, _+_, _-_, _/_, _<_, _≤_}
 use native.Mathlib.Omega.{arith}
 use native.Mathlib.Numerals.{add-one}
 use mathlib.Core.Path.{_≡_, refl, sym, ap, subst, _∙_}
 use mathlib.Core.List.{List}
 use mathlib.Core.Bool.{Bool, true, false}
-use lib.ListN.{getD, set}
+use lib.ListN.{length, getD, set}
+use lib.Seq.{take-all}
 use borrow.Author.Tests.{eq-eqb, ne-eqb}
 use Rattle.base.specs.Choice.{if_then_else_}
 use Rattle.base.proofs.Choices.{on-true, on-false, by-test}
@@ -17,7 +18,7 @@ use Rattle.floor.specs.Effects.{begun, servedRead, servedWrite, delivere
 use Rattle.floor.specs.Step.{isRefused, rowPlace, boxPlace, stationPlace, look, put, refused, accepted, playOf, applyOf, stepOf}
 use Rattle.floor.specs.Runs.{recordAt, recordsFrom, runFrom}
 use Rattle.floor.proofs.SoundLaws.{sound-holds}
-use Rattle.floor.proofs.Keeps.{apply-keeps}
+use Rattle.floor.proofs.Keeps.{apply-keeps, refused-same}
 use Rattle.floor.specs.declared.Floor.{Floor}
 use Rattle.floor.specs.declared.Parts.{Parts}
 use Rattle.floor.specs.declared.Changed.{Changed}
@@ -144,3 +145,34 @@ module _ (l : List ℕ) (count k at : ℕ) (h : k < count) (o : Outcome) (f : Fl
         rw left
         (run-goes-on (count - (k + 1)) k o f l at (record { floor = storedAt f i b j (y .parts); outcome = y .outcome })
         (ap (applyOf f) (sym ec) ∙ applied) (ap (λ (x : Changed). isRefused (x .outcome)) y-is ∙ effect-accepted (look f c) c none))
+
+-- a run of one record is its step
+abbrev oneStep : Floor → List ℕ → Ran
+oneStep f r =
+    if isRefused (stepOf f r .outcome) then record { floor = f; accepted = 0; last = stepOf f r .outcome }
+    else record { floor = stepOf f r .floor; accepted = 1; last = stepOf f r .outcome }
+
+one-step : (f : Floor) (l : List ℕ) → runFrom 0 (Refused 0) f (recordsFrom 1 l 0) ≡ oneStep f (recordAt l 0)
+unfolding runFrom recordsFrom
+one-step f l = refl
+
+record-whole : (l : List ℕ) → length l ≡ 8 → recordAt l 0 ≡ l
+unfolding recordAt
+record-whole l h = take-all 8 l (omega arith)
+
+step-refused : (f : Floor) (l : List ℕ) → isRefused (stepOf f l .outcome) ≡ true → f ≡ stepOf f l .floor
+unfolding stepOf
+step-refused f l t = sym (refused-same f (commandOf l) t)
+
+abbrev asStep : Ran → Stepped
+asStep x = record { floor = x .floor; outcome = x .last }
+
+one-says : (f : Floor) (l : List ℕ) → asStep (oneStep f l) ≡ stepOf f l
+one-says f l =
+    by-test (λ (x : Ran). asStep x ≡ stepOf f l) (isRefused (stepOf f l .outcome)) _ _
+    (λ t. ap (λ (g : Floor). record { floor = g; outcome = stepOf f l .outcome }) (step-refused f l t)) (λ _. refl)
+
+pub run-one : (f : Floor) (l : List ℕ) (x : Ran) → length l ≡ 8 → x ≡ runFrom 0 (Refused 0) f (recordsFrom (length l / 8) l 0) → asStep x ≡ stepOf f l
+run-one f l x h e =
+    let one : length l / 8 ≡ 1 = omega arith in
+    ap asStep (e ∙ ap (λ (k : ℕ). runFrom 0 (Refused 0) f (recordsFrom k l 0)) one ∙ one-step f l ∙ ap (oneStep f) (record-whole l h)) ∙ one-says f l
