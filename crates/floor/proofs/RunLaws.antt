@@ -7,53 +7,25 @@ use mathlib.Core.List.{List}
 use mathlib.Core.Bool.{Bool, true, false}
 use lib.ListN.{length, getD, set}
 use lib.Seq.{take-all}
-use borrow.Author.Tests.{eq-eqb, ne-eqb}
 use Rattle.base.specs.Choice.{if_then_else_}
 use Rattle.base.proofs.Choices.{on-true, on-false, by-test}
 use Rattle.floor.specs.State.{row0, box0, station0}
 use Rattle.floor.specs.Sound.{soundOf, Sound}
 use Rattle.floor.specs.Commands.{commandOf, attemptIn, boxIn, stationIn, placeIn}
 use Rattle.floor.specs.Refusals.{refusalIn}
-use Rattle.floor.specs.Effects.{begun, servedRead, servedWrite, deliveredRead, deliveredWrite, effectIn}
-use Rattle.floor.specs.Step.{isRefused, rowPlace, boxPlace, stationPlace, look, put, refused, accepted, playOf, applyOf, stepOf}
+use Rattle.floor.specs.Effects.{effectIn}
+use Rattle.floor.specs.Step.{isRefused, rowPlace, boxPlace, stationPlace, look, put, refused, accepted, applyOf, stepOf}
 use Rattle.floor.specs.Runs.{recordAt, recordsFrom, runFrom}
-use Rattle.floor.proofs.SoundLaws.{sound-holds}
-use Rattle.floor.proofs.Keeps.{apply-keeps, refused-same}
+use Rattle.floor.proofs.StepLaws.{apply-refused, apply-accepted}
+use Rattle.floor.proofs.Keeps.{apply-keeps, refused-same, effect-said}
 use Rattle.floor.specs.declared.Floor.{Floor}
 use Rattle.floor.specs.declared.Parts.{Parts}
 use Rattle.floor.specs.declared.Changed.{Changed}
 use Rattle.floor.specs.declared.Command.{Command}
-use Rattle.floor.specs.declared.Command.the-variants.{Begin, ServeRead, ServeWrite, DeliverRead, DeliverWrite, Stop, Leave, Malformed}
 use Rattle.floor.specs.declared.Stepped.{Stepped}
 use Rattle.floor.specs.declared.Ran.{Ran}
 use Rattle.floor.specs.declared.Outcome.{Outcome}
 use Rattle.floor.specs.declared.Outcome.the-variants.{Refused}
-
--- an accepted step says no refusal
-pub effect-accepted : (p : Parts) (c : Command) → refusalIn p c ≡ 0 → isRefused (effectIn p c .outcome) ≡ false
-unfolding begun servedRead servedWrite deliveredRead deliveredWrite
-effect-accepted p (Begin s round v) e = refl
-effect-accepted p (ServeRead a b) e = refl
-effect-accepted p (ServeWrite a b) e = refl
-effect-accepted p (DeliverRead a b) e =
-    by-test (λ (y : Changed). isRefused (y .outcome) ≡ false) _ _ _
-    (λ _. by-test (λ (y : Changed). isRefused (y .outcome) ≡ false) _ _ _ (λ _. refl) (λ _. refl)) (λ _. refl)
-effect-accepted p (DeliverWrite a b) e =
-    by-test (λ (y : Changed). isRefused (y .outcome) ≡ false) _ _ _
-    (λ _. by-test (λ (y : Changed). isRefused (y .outcome) ≡ false) _ _ _
-    (λ _. by-test (λ (y : Changed). isRefused (y .outcome) ≡ false) _ _ _ (λ _. refl) (λ _. refl)) (λ _. refl)) (λ _. refl)
-effect-accepted p (Stop b) e = refl
-effect-accepted p (Leave s) e = refl
-effect-accepted p Malformed e = absurd (omega arith)
-
-module _ (f : Floor) (s : Sound f) (c : Command) where
-  pub apply-accepted : refusalIn (look f c) c ≡ 0 → applyOf f c ≡ accepted f c (effectIn (look f c) c)
-  unfolding applyOf playOf
-  apply-accepted e = sym (on-true _ (sound-holds f s) (on-true _ (eq-eqb _ _ e) refl))
-
-  pub apply-refused : (refusalIn (look f c) c ≡ 0 → ⊥) → applyOf f c ≡ refused f (refusalIn (look f c) c)
-  unfolding applyOf playOf
-  apply-refused e = sym (on-true _ (sound-holds f s) (on-false _ (ne-eqb _ _ e) refl))
 
 -- the rest of a run that starts with a record, by what that record's step says
 module _ (k n : ℕ) (o : Outcome) (f : Floor) (l : List ℕ) (at : ℕ) (x : Stepped) (e : stepOf f (recordAt l at) ≡ x) where
@@ -122,7 +94,7 @@ module _ (l : List ℕ) (count k at : ℕ) (h : k < count) (o : Outcome) (f : Fl
       let r′ : e ≡ refusalIn (look f c) c = r ∙ ap (λ (p : Parts). refusalIn p c) looked in
       rw left
       (run-stops (count - (k + 1)) k o f l at (refused f e)
-      (ap (applyOf f) (sym ec) ∙ apply-refused f s c (λ q. z (r′ ∙ q)) ∙ ap (refused f) (sym r′)) refl)
+      (ap (applyOf f) (sym ec) ∙ apply-refused f c s (λ q. z (r′ ∙ q)) ∙ ap (refused f) (sym r′)) refl)
 
   module _ (e : ℕ) (r : e ≡ refusalIn (partsAt f i b j) c) (z : e ≡ 0) (y : Changed) (ey : y ≡ effectIn (partsAt f i b j) c) where
     none : refusalIn (look f c) c ≡ 0
@@ -133,7 +105,7 @@ module _ (l : List ℕ) (count k at : ℕ) (h : k < count) (o : Outcome) (f : Fl
 
     applied : applyOf f c ≡ record { floor = storedAt f i b j (y .parts); outcome = y .outcome }
     applied =
-        apply-accepted f s c none ∙ ap (accepted f c) (sym y-is)
+        apply-accepted f c s none ∙ ap (accepted f c) (sym y-is)
         ∙ ap (λ (g : Floor). record { floor = g; outcome = y .outcome }) (sym (stored (y .parts)))
 
     pub turn-sound : Sound (storedAt f i b j (y .parts))
@@ -144,7 +116,7 @@ module _ (l : List ℕ) (count k at : ℕ) (h : k < count) (o : Outcome) (f : Fl
     turn-on =
         rw left
         (run-goes-on (count - (k + 1)) k o f l at (record { floor = storedAt f i b j (y .parts); outcome = y .outcome })
-        (ap (applyOf f) (sym ec) ∙ applied) (ap (λ (x : Changed). isRefused (x .outcome)) y-is ∙ effect-accepted (look f c) c none))
+        (ap (applyOf f) (sym ec) ∙ applied) (ap (λ (x : Changed). isRefused (x .outcome)) y-is ∙ effect-said (look f c) c none))
 
 -- a run of one record is its step
 abbrev oneStep : Floor → List ℕ → Ran
