@@ -4,8 +4,8 @@ use mathlib.Core.List.{List, [], _∷_, _++_}
 use lib.ListN.{length, getD, take, drop}
 
 -- a list of bytes: what a slice of `u8` holds
-abbrev pub AllBytes : List ℕ → Type 0
-AllBytes s = (i : ℕ) → i < length s → getD s i 0 < 256
+pub record AllBytes (s : List ℕ) : Type 0 where
+  pub below : (i : ℕ) → i < length s → getD s i 0 < 256
 
 -- the number that four bytes spell
 abbrev pub wordOf : ℕ → ℕ → ℕ → ℕ → ℕ

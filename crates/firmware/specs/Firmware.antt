@@ -1,6 +1,6 @@
 -- Document 01, "The box routine (Figure 3)", as box firmware in C calls it, with refusals 16 and 17 of "Turned back, in checking order".
 use Prim.Native.Nat.{ℕ, _<_, _^_}
-use mathlib.Core.Bool.{Bool, not}
+use mathlib.Core.Bool.{not, _||_}
 use mathlib.Core.List.{List, _++_}
 use lib.Dec.{eqb}
 use lib.ListN.{length}
@@ -27,22 +27,20 @@ decode s = record { read = wordAt s 0; write = wordAt s 4; value = wordAt s 8 }
 unfoldable pub replyOf : ℕ → ℕ → List ℕ
 replyOf rank value = bytesOf rank ++ bytesOf value
 
--- "A read .. returns 0", of record s with rank r and reply p. Before that, "16. A box call whose record is not 12 bytes or whose reply
--- is not 8", then "17. A box call with rank 0".
+-- "A read fills an 8-byte reply .. and returns 0", of record s with rank r and reply p. Before that "16. A box call whose record is not 12
+-- bytes or whose reply is not 8", then "17. A box call with rank 0".
 unfoldable pub readAnswer : List ℕ → ℕ → List ℕ → ℕ
 readAnswer s r p =
-    if not (eqb (length s) 12) then 16
-    else if not (eqb (length p) 8) then 16
+    if not (eqb (length s) 12) || not (eqb (length p) 8) then 16
     else if eqb r 0 then 17
     else 0
 
--- "A write returns 0 for taken and 100 for not taken", of record s with rank r and revision v. Before that 16 (a write has no reply),
--- then "17. A box call with rank 0, or a write with revision 0".
+-- "A write returns 0 for taken and 100 for not taken", of record s with rank r and revision v. Before that 16 (a write has no reply), then
+-- "17. A box call with rank 0, or a write with revision 0".
 unfoldable pub writeAnswer : List ℕ → ℕ → ℕ → ℕ
 writeAnswer s r v =
     if not (eqb (length s) 12) then 16
-    else if eqb r 0 then 17
-    else if eqb v 0 then 17
+    else if eqb r 0 || eqb v 0 then 17
     else if rmwWrite (decode s) r v .taken then 0
     else 100
 

@@ -1,6 +1,8 @@
 // The box routine as box firmware in C calls it: document 01's section "The box routine", on a record of 12 bytes. The routine itself
 // is crate `register`'s, which the floor runs too; here are the bytes, the answers and the refusals.
-use register::{Register, rmw_read, rmw_write};
+use register::Register;
+use register::rmw_read;
+use register::rmw_write;
 ghost use mathlib.Core.Path.{_≡_};
 ghost use Prim.Native.Nat.{_+_, _≤_};
 ghost use lib.ListN.{length};
@@ -70,10 +72,7 @@ pub extern "C" fn box_read(bytes: &mut [u8], rank: u32, reply: &mut [u8]) -> u32
     ensures kept { λ _. ⌜ now (bytes .exit) ≡ recordAfterRead (now (bytes .entry)) rank (now (reply .entry)) ⌝ }
     ensures replied { λ _. ⌜ now (reply .exit) ≡ replyAfterRead (now (bytes .entry)) rank (now (reply .entry)) ⌝ }
 {
-    if bytes.len() != 12 {
-        return 16;
-    }
-    if reply.len() != 8 {
+    if bytes.len() != 12 || reply.len() != 8 {
         return 16;
     }
     if rank == 0 {
@@ -95,17 +94,14 @@ pub extern "C" fn box_write(bytes: &mut [u8], rank: u32, revision: u32) -> u32
     if bytes.len() != 12 {
         return 16;
     }
-    if rank == 0 {
-        return 17;
-    }
-    if revision == 0 {
+    if rank == 0 || revision == 0 {
         return 17;
     }
     let done = rmw_write(load(bytes), rank, revision);
-    if !done.taken {
-        return 100;
-    }
     let after = done.register;
-    store(bytes, after);
-    0
+    if done.taken {
+        store(bytes, after);
+        return 0;
+    }
+    100
 }

@@ -1,5 +1,4 @@
 use borrow.Author.Needs.{needs}
-use mathlib.Core.Path.{_∙_}
 use Rattle.firmware.specs.Firmware.{encode}
 use Rattle.firmware.proofs.ByteLaws.{three-words}
 use Rattle.firmware.proofs.store.Statement.{statement}
