@@ -37,7 +37,7 @@ fn put_u32(s: &mut [u8], at: usize, x: u32)
 // ---- The record of 12 bytes and the reply of 8
 
 fn load(s: &[u8]) -> Register
-    requires { ⌜ 12 ≤ length (now s) ⌝ }
+    requires { ⌜ length (now s) ≡ 12 ⌝ }
     ensures { λ y. ⌜ y ≡ decode (now (s .entry)) ⌝ }
 {
     let read = get_u32(s, 0);
@@ -63,7 +63,7 @@ fn store_reply(s: &mut [u8], rank: u32, value: u32)
     put_u32(s, 4, value);
 }
 
-// ---- The two calls. A refusal, 16 or 17, is decided before the first store.
+// ---- The two calls, `bytes` being the record. A refusal, 16 or 17, is decided before the first store.
 
 // A read: the record's read rank becomes the larger of itself and the rank; the reply is filled with write rank and value.
 #[no_mangle]
