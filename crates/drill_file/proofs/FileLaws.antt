@@ -5,14 +5,16 @@ use mathlib.Core.Bool.{Bool, true, false, true≢false}
 use mathlib.Core.List.{List, [], _∷_}
 use native.Mathlib.Numerals.{add-one}
 use native.Mathlib.Omega.{arith}
-use borrow.Author.Tests.{ltb-false, lt-ltb, le-ltb, eq-eqb, ne-eqb}
+use borrow.Author.Tests.{lt-ltb, le-ltb, eqb-true, eqb-false, eq-eqb, ne-eqb}
 use lib.Dec.{eqb}
 use lib.ListN.{length, getD, take, drop, drop-of-length-le, List·getD-eq-default}
 use lib.Seq.{drop-cons}
 use Rattle.base.specs.Choice.{if_then_else_}
 use Rattle.base.proofs.Choices.{on-true, on-false, by-test}
-use Rattle.drill_file.specs.DrillFile.{boxesOf, stationsOf, labelLength, recordsStart, recordCount, wrongSize, wrongVersion, wrongFloor, wrongByte, wrongBytes, wrongLabel, wrongRecords, fileRefusal, headerOf, labelOf}
+use Rattle.drill_file.specs.DrillFile.{boxesOf, stationsOf, labelLength, recordsStart, recordCount, wrongSize, wrongVersion, wrongFloor, wrongByte, wrongBytes, wrongLabel, wrongRecords, fileRefusal, headerOf, refusalIn, labelOf}
+use Rattle.drill_file.specs.declared.Header.{Header}
 use Rattle.drill_file.specs.declared.Header.the-variants.{Refused, Accepted}
+use Rattle.drill_file.proofs.TestLaws.{accepted-passed}
 
 -- a byte past the end reads 0
 pub past-end : (s : List ℕ) (p : ℕ) → length s ≤ p → 0 ≡ getD s p 0
@@ -58,43 +60,6 @@ module _ (s : List ℕ) (l : ℕ) (p : l ≡ labelLength s) where
           on-false _ (le-ltb (labelLength s) 1 (omega arith))
           (on-false _ (le-ltb 32 (labelLength s) (omega arith)) (on-false _ (le-ltb (length s) (recordsStart s) (omega arith)) (rw same)))
 
--- a chain of refusals that ends in 0: none of them applied
-none-first : (t : Bool) (k x : ℕ) → (if t then suc k else x) ≡ 0 → (t ≡ false) × (x ≡ 0)
-none-first t k x =
-    by-test (λ (y : ℕ). y ≡ 0 → (t ≡ false) × (x ≡ 0)) t (suc k) x (λ _ e. absurd (omega arith)) (λ u e. (u, e))
-
--- a chain of tests that ends in false: its first test failed
-none-true : (t x : Bool) → (if t then true else x) ≡ false → (t ≡ false) × (x ≡ false)
-none-true t x =
-    by-test (λ (y : Bool). y ≡ false → (t ≡ false) × (x ≡ false)) t true x (λ _ e. absurd (true≢false e)) (λ u e. (u, e))
-
--- what an accepted file has passed
-pub record Passed (s : List ℕ) : Type 0 where
-  pub size : wrongSize s ≡ false
-  pub version : wrongVersion s ≡ false
-  pub floor : wrongFloor s ≡ false
-  pub label : wrongLabel s ≡ false
-  pub records : wrongRecords s ≡ false
-
-pub passed : (s : List ℕ) → fileRefusal s ≡ 0 → Passed s
-unfolding fileRefusal
-passed s e =
-    let a = none-first _ _ _ e in
-    let b = none-first _ _ _ (a .1) in
-    let c = none-first _ _ _ (b .1) in
-    let d = none-first _ _ _ (c .1) in
-    let f = none-first _ _ _ (d .1) in
-    record { size = a .0; version = b .0; floor = c .0; label = d .0; records = f .0 }
-
--- the label of an accepted file ends within it
-pub label-within : (s : List ℕ) → fileRefusal s ≡ 0 → recordsStart s ≤ length s
-unfolding wrongLabel
-label-within s e =
-    let a = none-true _ _ (passed s e .label) in
-    let b = none-true _ _ (a .1) in
-    let c = none-true _ _ (b .1) in
-    ltb-false (length s) (recordsStart s) (c .0)
-
 -- header and label by the refusal k of the file
 module _ (s : List ℕ) (k : ℕ) (e : k ≡ fileRefusal s) where
   module _ (f : k ≡ 0 → ⊥) where
@@ -119,10 +84,39 @@ module _ (s : List ℕ) (k : ℕ) (e : k ≡ fileRefusal s) where
 
     module _ (a : ℕ) (p : a ≡ recordsStart s) where
       pub label-ends : a ≤ length s
-      label-ends = rw p (label-within s (sym e ∙ z))
+      label-ends = rw p (accepted-passed s (sym e ∙ z) .labelled .within)
 
       pub label-accepted : take (a - 6) (drop 6 s) ≡ labelOf s
       unfolding labelOf
       label-accepted =
           let same : a - 6 ≡ labelLength s = omega arith in
           on-true _ accepts (rw same)
+
+-- document 01's number of the header's answer
+pub header-number : (s : List ℕ) → refusalIn (headerOf s) ≡ fileRefusal s
+unfolding headerOf
+header-number s =
+    by-test (λ (h : Header). refusalIn h ≡ fileRefusal s) (eqb (fileRefusal s) 0) _ _
+    (λ t. sym (eqb-true (fileRefusal s) 0 t)) (λ _. refl)
+
+-- what a caller has in hand where the answer is a refusal, and where it is not
+pub refused-number : (s : List ℕ) (k : ℕ) → headerOf s ≡ Refused k → (fileRefusal s ≡ k) × (k ≡ 0 → ⊥)
+unfolding headerOf
+refused-number s k =
+    by-test (λ (h : Header). h ≡ Refused k → (fileRefusal s ≡ k) × (k ≡ 0 → ⊥)) (eqb (fileRefusal s) 0) _ _
+    (λ _ e. absurd (let z : _≡_ {A = ℕ} 0 1 = cc in omega arith))
+    (λ t e. let same : fileRefusal s ≡ k = cc in (same, λ z. eqb-false (fileRefusal s) 0 t (same ∙ z)))
+
+pub record Values (s : List ℕ) (n m start count : ℕ) : Type 0 where
+  pub accepted : fileRefusal s ≡ 0
+  pub boxes : n ≡ boxesOf s
+  pub stations : m ≡ stationsOf s
+  pub starts : start ≡ recordsStart s
+  pub counts : count ≡ recordCount s
+
+pub accepted-values : (s : List ℕ) (n m start count : ℕ) → headerOf s ≡ Accepted n m start count → Values s n m start count
+unfolding headerOf
+accepted-values s n m start count =
+    by-test (λ (h : Header). h ≡ Accepted n m start count → Values s n m start count) (eqb (fileRefusal s) 0) _ _
+    (λ t e. record { accepted = eqb-true (fileRefusal s) 0 t; boxes = cc; stations = cc; starts = cc; counts = cc })
+    (λ _ e. absurd (let z : _≡_ {A = ℕ} 0 1 = cc in omega arith))

@@ -3,7 +3,9 @@
 use Prim.Native.Nat.{ℕ, _+_, _*_, _/_, _%_, _<_, _≤_}
 use mathlib.Core.Path.{_≡_}
 use mathlib.Core.List.{List, [], _∷_, _++_, flatten}
-use lib.ListN.{length, getD}
+use lib.ListN.{length, getD, drop}
+use Rattle.drill_file.specs.DrillFile.{labelOf}
+use Rattle.drill_file.specs.Records.{recordsFrom}
 
 -- "version byte 1; n; m; label length 1 to 32; the label, bytes 33 to 126; then records of 8 bytes"
 unfoldable pub bodyOf : ℕ → ℕ → List ℕ → List (List ℕ) → List ℕ
@@ -26,3 +28,12 @@ pub record Parts (n m : ℕ) (label : List ℕ) (records : List (List ℕ)) : Ty
   -- "records of 8 bytes, at most 4,096"
   pub few : length records ≤ 4096
   pub eights : (i : ℕ) → i < length records → length (getD records i []) ≡ 8
+
+-- a file, read as n, m and count records from start on, is exactly these parts and its label, in the documented layout
+pub record LaidOut (s : List ℕ) (n m start count : ℕ) : Type 0 where
+  pub parts : Parts n m (labelOf s) (recordsFrom count s start)
+  pub exactly : s ≡ fileOf n m (labelOf s) (recordsFrom count s start)
+  -- the records are the rest of the file
+  pub starts : start ≡ 6 + length (labelOf s)
+  pub size : length s ≡ start + 8 * count
+  pub rest : flatten (recordsFrom count s start) ≡ drop start s

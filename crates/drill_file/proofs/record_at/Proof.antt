@@ -16,4 +16,4 @@ record-at-spec =
     (λ c κs. search needs)
     (λ c κs. search needs)
     (λ c κs. search needs)
-    (λ c. cc))
+    (λ c. rw (c .byte-after7 .ensures, c .before .byte-after6 .ensures, c .before .before .byte-after5 .ensures, c .before .before .before .byte-after4 .ensures, c .before .before .before .before .byte-after3 .ensures, c .before .before .before .before .before .byte-after2 .ensures, c .before .before .before .before .before .before .byte-after .ensures, c .before .before .before .before .before .before .before .byte-at .ensures)))

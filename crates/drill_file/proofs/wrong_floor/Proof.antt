@@ -11,4 +11,4 @@ wrong-floor-spec =
     (λ c κs. search needs)
     (λ c κs. search needs)
     (λ c κs. search needs)
-    (λ c. cc))
+    (λ c. rw (c .sizes-right .ensures, c .before .byte-at2 .ensures, c .before .before .byte-at .ensures)))

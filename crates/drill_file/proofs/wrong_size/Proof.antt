@@ -17,4 +17,4 @@ wrong-size-spec =
     (λ c κs. search needs)
     (λ c κs. search needs)
     (λ c. search needs)
-    (λ c. on-false _ (search tests) (on-false _ (search tests) (cc))))
+    (λ c. on-false _ (search tests) (on-false _ (search tests) (rw (c .pair .ensures, c .before .byte-at2 .ensures, c .before .before .byte-at .ensures)))))
