@@ -1,17 +1,16 @@
 -- What the functions go by: the definitions of a file's header, one way through them at a time.
-use Prim.Native.Nat.{ℕ, suc, _+_, _-_, _≤_, _<_}
+use Prim.Native.Nat.{ℕ, _+_, _-_, _≤_, _<_}
 use mathlib.Core.Path.{_≡_, refl, sym, _∙_, ap}
-use mathlib.Core.Bool.{Bool, true, false, true≢false}
-use mathlib.Core.List.{List, [], _∷_}
+use mathlib.Core.Bool.{true, false}
+use mathlib.Core.List.{List, []}
 use native.Mathlib.Numerals.{add-one}
 use native.Mathlib.Omega.{arith}
 use borrow.Author.Tests.{lt-ltb, le-ltb, eqb-true, eqb-false, eq-eqb, ne-eqb}
 use lib.Dec.{eqb}
 use lib.ListN.{length, getD, take, drop, drop-of-length-le, List·getD-eq-default}
 use lib.Seq.{drop-cons}
-use Rattle.base.specs.Choice.{if_then_else_}
 use Rattle.base.proofs.Choices.{on-true, on-false, by-test}
-use Rattle.drill_file.specs.DrillFile.{boxesOf, stationsOf, labelLength, recordsStart, recordCount, wrongSize, wrongVersion, wrongFloor, wrongByte, wrongBytes, wrongLabel, wrongRecords, fileRefusal, headerOf, refusalIn, labelOf}
+use Rattle.drill_file.specs.DrillFile.{boxesOf, stationsOf, labelLength, recordsStart, recordCount, wrongByte, wrongBytes, wrongLabel, fileRefusal, headerOf, refusalIn, labelOf}
 use Rattle.drill_file.specs.declared.Header.{Header}
 use Rattle.drill_file.specs.declared.Header.the-variants.{Refused, Accepted}
 use Rattle.drill_file.proofs.TestLaws.{accepted-passed}

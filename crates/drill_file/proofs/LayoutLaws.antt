@@ -1,13 +1,13 @@
 -- An accepted file is exactly its parts, in the documented layout; and a file so laid out is accepted, with these parts.
 use Prim.Native.Nat.{ℕ, suc, _+_, _-_, _*_, _/_, _%_, _≤_, _<_}
 use mathlib.Core.Path.{_≡_, refl, sym, ap, _∙_}
-use mathlib.Core.List.{List, [], _∷_, _++_, flatten}
+use mathlib.Core.List.{List, _∷_, flatten}
 use native.Mathlib.Omega.{arith}
 use borrow.Author.Tests.{eq-eqb}
-use lib.ListN.{length, getD, take, drop, length-append, length-drop, take-append-drop}
+use lib.ListN.{length, getD, drop, length-append, length-drop, take-append-drop}
 use lib.Seq.{drop-cons, drop-drop, take-all, length-take-le, take-append-seam}
 use Rattle.base.proofs.Choices.{on-true}
-use Rattle.drill_file.specs.DrillFile.{statedSize, versionOf, boxesOf, stationsOf, labelLength, labelPart, recordsStart, afterLabel, recordCount, fileRefusal, headerOf, labelOf}
+use Rattle.drill_file.specs.DrillFile.{statedSize, boxesOf, stationsOf, labelLength, labelPart, recordsStart, afterLabel, recordCount, fileRefusal, headerOf, labelOf}
 use Rattle.drill_file.specs.Records.{recordsFrom, recordsOf}
 use Rattle.drill_file.specs.Layout.{bodyOf, fileOf, Parts, LaidOut}
 use Rattle.drill_file.specs.declared.Header.the-variants.{Accepted}

@@ -6,7 +6,7 @@ use native.Mathlib.Nat.{add-suc}
 use native.Mathlib.Numerals.{add-one}
 use native.Mathlib.Omega.{arith}
 use lib.ListN.{length, getD, take, drop, length-append}
-use lib.Seq.{drop-cons, drop-drop, take-add, take-append-seam, drop-append-seam, take-at}
+use lib.Seq.{drop-cons, drop-drop, take-add, drop-append-seam, take-at}
 use Rattle.drill_file.specs.Records.{recordAt, recordsFrom}
 
 -- each record has 8 bytes

@@ -22,7 +22,7 @@ none-first : (t : Bool) (k x : ℕ) → (if t then suc k else x) ≡ 0 → (t �
 none-first t k x =
     by-test (λ (y : ℕ). y ≡ 0 → (t ≡ false) × (x ≡ 0)) t (suc k) x (λ _ e. absurd (omega arith)) (λ u e. (u, e))
 
--- 1
+-- refusal 1
 pub record Sized (s : List ℕ) : Type 0 where
   pub least : 6 ≤ length s
   pub most : length s ≤ 32806
@@ -45,7 +45,7 @@ size-holds s z =
     sym (on-false _ (le-ltb (length s) 6 (z .least))
     (on-false _ (le-ltb 32806 (length s) (z .most)) (ap not (sym (eq-eqb (statedSize s) (length s - 2) (z .stated))))))
 
--- 3
+-- refusal 3
 pub record Floored (n m : ℕ) : Type 0 where
   pub boxes : (1 ≤ n) × (n ≤ 9)
   pub stations : (1 ≤ m) × (m ≤ 16)
@@ -65,7 +65,7 @@ floor-holds n m f =
     sym (on-false _ (le-ltb n 1 (f .boxes .0)) (on-false _ (le-ltb 9 n (f .boxes .1))
     (on-false _ (le-ltb m 1 (f .stations .0)) (on-false _ (le-ltb 16 m (f .stations .1)) refl))))
 
--- 4
+-- refusal 4
 abbrev pub Printable : ℕ → Type 0
 Printable b = (33 ≤ b) × (b ≤ 126)
 
@@ -114,7 +114,7 @@ label-holds s l =
     sym (on-false _ (le-ltb (labelLength s) 1 (l .some)) (on-false _ (le-ltb 32 (labelLength s) (l .few))
     (on-false _ (le-ltb (length s) (recordsStart s) (l .within)) (sym (bytes-hold (labelPart s) (l .printable))))))
 
--- 5
+-- refusal 5
 pub record Recorded (s : List ℕ) : Type 0 where
   pub whole : afterLabel s % 8 ≡ 0
   pub few : recordCount s ≤ 4096
@@ -129,7 +129,7 @@ records-hold : (s : List ℕ) → Recorded s → wrongRecords s ≡ false
 unfolding wrongRecords
 records-hold s r = sym (on-true _ (eq-eqb (afterLabel s % 8) 0 (r .whole)) (sym (le-ltb 4096 (recordCount s) (r .few))))
 
--- all five
+-- none of the five applies
 pub record Passed (s : List ℕ) : Type 0 where
   pub sized : Sized s
   pub version : versionOf s ≡ 1

@@ -1,4 +1,3 @@
-use mathlib.Core.Path.{refl}
 use Rattle.base.proofs.Tests.{picks}
 use Rattle.base.specs.Numbers.{sizesRight}
 use Rattle.drill_file.proofs.sizes_right.Statement.{statement}
