@@ -1,0 +1,4 @@
+pub mod TestLaws
+pub mod FileLaws
+pub mod RecordLaws
+pub mod LayoutLaws

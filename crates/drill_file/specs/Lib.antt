@@ -1,0 +1,3 @@
+pub mod DrillFile
+pub mod Records
+pub mod Layout
