@@ -7,13 +7,13 @@ use borrow.Author.Tests.{eq-eqb}
 use lib.ListN.{length, getD, drop, length-append, length-drop, take-append-drop}
 use lib.Seq.{drop-cons, drop-drop, take-all, length-take-le, take-append-seam}
 use Rattle.base.proofs.Choices.{on-true}
-use Rattle.drill_file.specs.DrillFile.{statedSize, boxesOf, stationsOf, labelLength, labelPart, recordsStart, afterLabel, recordCount, fileRefusal, headerOf, labelOf}
-use Rattle.drill_file.specs.Records.{recordsFrom, recordsOf}
+use Rattle.drill_file.specs.DrillFile.{statedSize, boxesOf, stationsOf, labelLength, labelPart, recordsStart, afterLabel, recordCount, fileRefusal, headerOf, labelOf, recordsOf}
+use Rattle.base.specs.Records.{recordsFrom}
 use Rattle.drill_file.specs.Layout.{bodyOf, fileOf, Parts, LaidOut}
 use Rattle.drill_file.specs.declared.Header.the-variants.{Accepted}
 use Rattle.drill_file.proofs.TestLaws.{accepted-passed, passed-accepted}
 use Rattle.drill_file.proofs.FileLaws.{header-accepted, accepted-values}
-use Rattle.drill_file.proofs.RecordLaws.{record-length, records-length, record-nth, records-joined, joined-length, records-back}
+use Rattle.base.proofs.RecordLaws.{record-length, records-length, record-nth, records-joined, joined-length, records-back}
 
 -- the first six bytes of a file, and the rest
 six : (s : List ℕ) → 6 ≤ length s → s ≡ getD s 0 0 ∷ getD s 1 0 ∷ getD s 2 0 ∷ getD s 3 0 ∷ getD s 4 0 ∷ getD s 5 0 ∷ drop 6 s

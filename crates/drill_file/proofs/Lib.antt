@@ -1,4 +1,3 @@
 pub mod TestLaws
 pub mod FileLaws
-pub mod RecordLaws
 pub mod LayoutLaws

@@ -6,6 +6,7 @@ use lib.Dec.{eqb, ltb}
 use lib.ListN.{length, getD, take, drop}
 use Rattle.base.specs.Choice.{if_then_else_}
 use Rattle.base.specs.Numbers.{sizesRight}
+use Rattle.base.specs.Records.{recordsFrom}
 use Rattle.drill_file.specs.declared.Header.{Header}
 use Rattle.drill_file.specs.declared.Header.the-variants.{Refused, Accepted}
 
@@ -98,3 +99,7 @@ refusalIn (Accepted n m start count) = 0
 -- "The reader hands back the label as that part of the file"; "a file refused before its records are played gives an empty label"
 unfoldable pub labelOf : List ℕ → List ℕ
 labelOf s = if eqb (fileRefusal s) 0 then labelPart s else []
+
+-- "then records of 8 bytes": those of an accepted file
+abbrev pub recordsOf : List ℕ → List (List ℕ)
+recordsOf s = recordsFrom (recordCount s) s (recordsStart s)

@@ -5,7 +5,7 @@ use mathlib.Core.Path.{_≡_}
 use mathlib.Core.List.{List, [], _∷_, _++_, flatten}
 use lib.ListN.{length, getD, drop}
 use Rattle.drill_file.specs.DrillFile.{labelOf}
-use Rattle.drill_file.specs.Records.{recordsFrom}
+use Rattle.base.specs.Records.{recordsFrom}
 
 -- "version byte 1; n; m; label length 1 to 32; the label, bytes 33 to 126; then records of 8 bytes"
 unfoldable pub bodyOf : ℕ → ℕ → List ℕ → List (List ℕ) → List ℕ

@@ -1,3 +1,2 @@
 pub mod DrillFile
-pub mod Records
 pub mod Layout

@@ -4,7 +4,6 @@ ghost use Prim.Native.Nat.{_+_, _*_};
 ghost use lib.ListN.{getD};
 ghost use Rattle.drill_file.specs.DrillFile.{recordsStart, afterLabel, wrongSize, wrongVersion, wrongFloor, wrongByte, wrongBytes, wrongLabel, wrongRecords, fileRefusal, headerOf, refusalIn, labelOf};
 ghost use Rattle.base.specs.Numbers.{sizesRight};
-ghost use Rattle.drill_file.specs.Records.{recordAt};
 
 // What the header says: the refusal, or n, m, where the records start and how many there are.
 pub enum Header {
@@ -205,33 +204,4 @@ pub fn label(file: &[u8]) -> &[u8]
     }
     let end = records_start(file);
     &file[6..end]
-}
-
-// The byte k places behind a place, 0 past the end.
-fn byte_after(file: &[u8], at: usize, k: usize) -> u8
-    ensures { λ y. ⌜ y ≡ getD (now (file .entry)) (at + k) 0 ⌝ }
-{
-    if file.len() <= at {
-        return 0;
-    }
-    if file.len() - at <= k {
-        return 0;
-    }
-    file[at + k]
-}
-
-// The record of 8 bytes at a place; its bytes past the end of the file are 0.
-pub fn record_at(file: &[u8], at: usize) -> [u8; 8]
-    ensures { λ y. ⌜ y ≡ recordAt (now (file .entry)) at ⌝ }
-{
-    [
-        byte_at(file, at),
-        byte_after(file, at, 1),
-        byte_after(file, at, 2),
-        byte_after(file, at, 3),
-        byte_after(file, at, 4),
-        byte_after(file, at, 5),
-        byte_after(file, at, 6),
-        byte_after(file, at, 7),
-    ]
 }

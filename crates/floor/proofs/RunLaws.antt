@@ -15,7 +15,9 @@ use Rattle.floor.specs.Commands.{commandOf, attemptIn, boxIn, stationIn,
 use Rattle.floor.specs.Refusals.{refusalIn}
 use Rattle.floor.specs.Effects.{effectIn}
 use Rattle.floor.specs.Step.{isRefused, rowPlace, boxPlace, stationPlace, look, put, refused, accepted, applyOf, stepOf}
-use Rattle.floor.specs.Runs.{recordAt, recordsFrom, runFrom}
+use Rattle.base.specs.Records.{recordAt, recordsFrom}
+use Rattle.base.proofs.RecordLaws.{record-whole}
+use Rattle.floor.specs.Runs.{runFrom}
 use Rattle.floor.proofs.StepLaws.{apply-refused, apply-accepted}
 use Rattle.floor.proofs.Keeps.{apply-keeps, refused-same, effect-said}
 use Rattle.floor.specs.declared.Floor.{Floor}
@@ -128,9 +130,8 @@ one-step : (f : Floor) (l : List ℕ) → runFrom 0 (Refused 0) f (recordsFrom 1
 unfolding runFrom recordsFrom
 one-step f l = refl
 
-record-whole : (l : List ℕ) → length l ≡ 8 → recordAt l 0 ≡ l
-unfolding recordAt
-record-whole l h = take-all 8 l (omega arith)
+record-all : (l : List ℕ) → length l ≡ 8 → recordAt l 0 ≡ l
+record-all l h = record-whole l 0 (omega arith) ∙ take-all 8 l (omega arith)
 
 step-refused : (f : Floor) (l : List ℕ) → isRefused (stepOf f l .outcome) ≡ true → f ≡ stepOf f l .floor
 unfolding stepOf
@@ -147,4 +148,4 @@ one-says f l =
 pub run-one : (f : Floor) (l : List ℕ) (x : Ran) → length l ≡ 8 → x ≡ runFrom 0 (Refused 0) f (recordsFrom (length l / 8) l 0) → asStep x ≡ stepOf f l
 run-one f l x h e =
     let one : length l / 8 ≡ 1 = omega arith in
-    ap asStep (e ∙ ap (λ (k : ℕ). runFrom 0 (Refused 0) f (recordsFrom k l 0)) one ∙ one-step f l ∙ ap (oneStep f) (record-whole l h)) ∙ one-says f l
+    ap asStep (e ∙ ap (λ (k : ℕ). runFrom 0 (Refused 0) f (recordsFrom k l 0)) one ∙ one-step f l ∙ ap (oneStep f) (record-all l h)) ∙ one-says f l

@@ -5,7 +5,8 @@ use mathlib.Core.Path.{_≡_, refl, sym, _∙_}
 use Rattle.base.proofs.Tests.{tests}
 use native.Mathlib.Nat.{sub-zero}
 use Rattle.floor.specs.Sound.{Sound}
-use Rattle.floor.specs.Runs.{recordsFrom, runFrom, runOf}
+use Rattle.base.specs.Records.{recordsFrom}
+use Rattle.floor.specs.Runs.{runFrom, runOf}
 use Rattle.floor.proofs.SoundLaws.{sound-means}
 use Rattle.floor.proofs.RunLaws.{run-none, run-unsound, run-ends, turn-refused, turn-sound, turn-on}
 use Rattle.floor.proofs.run.Statement.{statement}

@@ -1,13 +1,13 @@
--- The records of a file: how long they are, how many, and that joined they are the bytes they were cut from.
+-- The records of a list of bytes: how long they are, how many, and that joined they are the bytes they were cut from.
 use Prim.Native.Nat.{ℕ, zero, suc, _+_, _-_, _*_, _≤_, _<_}
-use mathlib.Core.Path.{_≡_, refl, sym, ap, _∙_}
+use mathlib.Core.Path.{_≡_, refl, sym, ap, ap₂, _∙_}
 use mathlib.Core.List.{List, [], _∷_, _++_, flatten, append-assoc}
-use native.Mathlib.Nat.{add-suc}
+use native.Mathlib.Nat.{add-suc, add-assoc}
 use native.Mathlib.Numerals.{add-one}
 use native.Mathlib.Omega.{arith}
 use lib.ListN.{length, getD, take, drop, length-append}
-use lib.Seq.{drop-cons, drop-drop, take-add, drop-append-seam, take-at}
-use Rattle.drill_file.specs.Records.{recordAt, recordsFrom}
+use lib.Seq.{getD-drop, drop-cons, drop-drop, take-add, drop-append-seam, take-at}
+use Rattle.base.specs.Records.{recordAt, recordsFrom}
 
 -- each record has 8 bytes
 pub record-length : (s : List ℕ) (p : ℕ) → length (recordAt s p) ≡ 8
@@ -18,7 +18,7 @@ record-length s p = refl
 next : (n : ℕ) (s : List ℕ) (p k : ℕ) → p + k < length s → take (suc n) (drop (p + k) s) ≡ getD s (p + k) 0 ∷ take n (drop (p + suc k) s)
 next n s p k h = rw (drop-cons s (p + k) 0 h, add-suc p k)
 
--- a record that lies within the file is the 8 bytes there
+-- a record that lies within the list is the 8 bytes there
 pub record-whole : (s : List ℕ) (p : ℕ) → p + 8 ≤ length s → recordAt s p ≡ take 8 (drop p s)
 unfolding recordAt
 record-whole s p h = sym (first ∙ ap (λ (l : List ℕ). getD s p 0 ∷ l) rest)
@@ -83,3 +83,14 @@ records-back (r ∷ rs) h p =
     let fits : length p + 8 ≤ length (p ++ (r ++ flatten rs)) = simp length-append (omega arith) in
     let head = record-whole (p ++ (r ++ flatten rs)) (length p) fits ∙ ap (take 8) (drop-append-seam p (r ++ flatten rs)) ∙ take-at r (flatten rs) 8 eight in
     rw (head, ← size, ← (append-assoc p r (flatten rs)), back)
+
+-- the records of the bytes from q on
+pub record-drop : (s : List ℕ) (q p : ℕ) → recordAt (drop q s) p ≡ recordAt s (q + p)
+unfolding recordAt
+record-drop s q p = simp (getD-drop, add-assoc)
+
+pub records-drop : (k : ℕ) (s : List ℕ) (q p : ℕ) → recordsFrom k (drop q s) p ≡ recordsFrom k s (q + p)
+unfolding recordsFrom
+records-drop zero s q p = refl
+records-drop (suc k) s q p =
+    ap₂ _∷_ (record-drop s q p) (records-drop k s q (p + 8) ∙ ap (recordsFrom k s) (sym (add-assoc q p 8)))

@@ -1,10 +1,9 @@
--- Document 01, "The drill file": its records.
+-- Document 01, "The drill file": records of 8 bytes in a list of bytes.
 use Prim.Native.Nat.{ℕ, zero, suc, _+_}
 use mathlib.Core.List.{List, [], _∷_}
 use lib.ListN.{getD}
-use Rattle.drill_file.specs.DrillFile.{recordsStart, recordCount}
 
--- the record of 8 bytes at p; a byte past the end of the file is 0
+-- the record of 8 bytes at place p; a byte past the end of the list is 0
 unfoldable pub recordAt : List ℕ → ℕ → List ℕ
 recordAt s p =
     getD s p 0
@@ -21,7 +20,3 @@ recordAt s p =
 unfoldable pub recordsFrom : ℕ → List ℕ → ℕ → List (List ℕ)
 recordsFrom zero s p = []
 recordsFrom (suc k) s p = recordAt s p ∷ recordsFrom k s (p + 8)
-
--- "then records of 8 bytes": those of an accepted file
-abbrev pub recordsOf : List ℕ → List (List ℕ)
-recordsOf s = recordsFrom (recordCount s) s (recordsStart s)
