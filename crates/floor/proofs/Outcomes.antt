@@ -1,0 +1,177 @@
+-- What each thing said tells: of which command it came, which tests that passed, and what then stands where the step stored. The
+-- arrays have their lengths, so that what is stored can be read back.
+use Prim.Native.Nat.{ℕ, _<_}
+use native.Mathlib.Omega.{arith}
+use mathlib.Core.Path.{_≡_, refl}
+use mathlib.Core.Bool.{Bool, true, false}
+use mathlib.Core.List.{List}
+use lib.ListN.{getD, set}
+use lib.Seq.{getD-set-same}
+use Rattle.register.specs.Register.{rmwRead, rmwWrite}
+use Rattle.register.specs.declared.StorageBox.{StorageBox}
+use Rattle.floor.specs.State.{box0, station0, row0, boxAt, stationAt, rowAt, isReading, isWriting, atQuorum}
+use Rattle.floor.specs.Sound.{Sound}
+use Rattle.floor.specs.Commands.{commandOf}
+use Rattle.floor.specs.Rows.{newRow, revisionOf, allTaken}
+use Rattle.floor.specs.Rows as rows
+use Rattle.floor.specs.Effects.{withState, withRegister, rowServedRead, rowServedWrite}
+use Rattle.floor.specs.Step.{applyOf, stepOf}
+use Rattle.floor.specs.declared.Phase.the-variants as phase
+use Rattle.floor.specs.declared.Station.{Station}
+use Rattle.floor.specs.declared.Row.{Row}
+use Rattle.floor.specs.declared.Floor.{Floor}
+use Rattle.floor.specs.declared.Stepped.{Stepped}
+use Rattle.floor.specs.declared.Outcome.{Outcome}
+use Rattle.floor.specs.declared.Outcome.the-variants.{Begun, Served, Received, Aborted, WriteIssued, Decided, Stopped, Gone, Refused}
+use Rattle.floor.specs.declared.Command.{Command}
+use Rattle.floor.specs.declared.Command.the-variants.{Begin, ServeRead, ServeWrite, DeliverRead, DeliverWrite, Stop, Leave}
+use Rattle.floor.proofs.Forms.{ownerAt, readHeard, writeHeard, beginner, decider}
+use Rattle.floor.proofs.View.{CanBegin, CanServe, CanDeliver, CanStop, CanLeave, TurnedBack, StepView, turned, began, read-served, write-served, read-heard, issued, write-heard, decided, aborted, stopped, left, apply-view}
+use Rattle.floor.proofs.Keeps.{Lengths}
+
+module _ (f : Floor) (c : Command) (g : Floor) where
+  pub record BegunBy (a : ℕ) : Type 0 where
+    pub station : ℕ
+    pub round : ℕ
+    pub offer : ℕ
+    pub command : c ≡ Begin station round offer
+    pub may : CanBegin f station round offer
+    pub next : a ≡ f .used
+    pub row : rowAt g (f .used) ≡ newRow (f .n) station round offer
+    pub beginning : stationAt g station ≡ beginner f station round
+
+  pub data ServedBy (a : ℕ) : Type 0 where
+    read-at : {b : ℕ} → c ≡ ServeRead a b → CanServe f false a b → rowAt g a ≡ rowServedRead (rowAt f a) (boxAt f b .register) b
+        → boxAt g b ≡ withRegister (boxAt f b) (rmwRead (boxAt f b .register) (rowAt f a .rank) .register) → ServedBy a
+    write-at : {b : ℕ} → c ≡ ServeWrite a b → CanServe f true a b → rowAt g a ≡ rowServedWrite (rowAt f a) (boxAt f b .register) b
+        → boxAt g b ≡ withRegister (boxAt f b) (rmwWrite (boxAt f b .register) (rowAt f a .rank) (rowAt f a .written) .register) → ServedBy a
+
+  pub data ReceivedBy (a : ℕ) : Type 0 where
+    read-from : {b : ℕ} → c ≡ DeliverRead a b → CanDeliver f false a b → rowAt g a ≡ readHeard f a b → ReceivedBy a
+    write-from : {b : ℕ} → c ≡ DeliverWrite a b → CanDeliver f true a b → rowAt g a ≡ writeHeard f a b → ReceivedBy a
+
+  pub record IssuedBy (v : ℕ) : Type 0 where
+    pub attempt : ℕ
+    pub box : ℕ
+    pub command : c ≡ DeliverRead attempt box
+    pub may : CanDeliver f false attempt box
+    pub reading : isReading (ownerAt f attempt .state) attempt ≡ true
+    pub quorum : atQuorum (readHeard f attempt box .readers) (f .n) ≡ true
+    pub revision : v ≡ revisionOf (readHeard f attempt box) (f .n)
+    pub row : rowAt g attempt ≡ rows.issued (readHeard f attempt box) v (f .n)
+    pub owner : stationAt g (rowAt f attempt .station) ≡ withState (ownerAt f attempt) (phase.Writing attempt)
+
+  -- the q-th write answer of the attempt a, from the box b, reaches its station, which writes
+  pub record LastAnswer (a b : ℕ) : Type 0 where
+    pub command : c ≡ DeliverWrite a b
+    pub may : CanDeliver f true a b
+    pub writing : isWriting (ownerAt f a .state) a ≡ true
+    pub quorum : atQuorum (writeHeard f a b .writers) (f .n) ≡ true
+    pub row : rowAt g a ≡ writeHeard f a b
+
+  pub record DecidedBy (v : ℕ) : Type 0 where
+    pub attempt : ℕ
+    pub box : ℕ
+    pub answer : LastAnswer attempt box
+    pub taken : allTaken (rowAt f attempt .writes) (writeHeard f attempt box .writers) (f .n) ≡ true
+    pub written : v ≡ rowAt f attempt .written
+    pub owner : stationAt g (rowAt f attempt .station) ≡ decider f attempt (writeHeard f attempt box)
+
+  pub record AbortedBy (a : ℕ) : Type 0 where
+    pub box : ℕ
+    pub answer : LastAnswer a box
+    pub taken : allTaken (rowAt f a .writes) (writeHeard f a box .writers) (f .n) ≡ false
+    pub owner : stationAt g (rowAt f a .station) ≡ withState (ownerAt f a) phase.Idle
+
+  pub record StoppedBy (b : ℕ) : Type 0 where
+    pub command : c ≡ Stop b
+    pub may : CanStop f b
+    pub storage : boxAt g b ≡ record { register = boxAt f b .register; stopped = true }
+
+  pub record GoneBy (s : ℕ) : Type 0 where
+    pub command : c ≡ Leave s
+    pub may : CanLeave f s
+    pub station : stationAt g s ≡ withState (stationAt f s) phase.Gone
+
+  pub record RefusedBy (k : ℕ) : Type 0 where
+    pub cause : TurnedBack f c k
+    pub floor : g ≡ f
+
+  abbrev pub Told : Outcome → Type 0
+  Told (Begun a) = BegunBy a
+  Told (Served a) = ServedBy a
+  Told (Received a) = ReceivedBy a
+  Told (Aborted a) = AbortedBy a
+  Told (WriteIssued v) = IssuedBy v
+  Told (Decided v) = DecidedBy v
+  Told (Stopped b) = StoppedBy b
+  Told (Gone s) = GoneBy s
+  Told (Refused k) = RefusedBy k
+
+-- what is stored is read back
+module _ (f : Floor) (y : Lengths f) (z : Sound f) where
+  pub row-stored : (a : ℕ) (w : Row) → a < 64 → getD (set (f .rows) a w) a row0 ≡ w
+  row-stored a w h = getD-set-same (f .rows) a w row0 (omega (arith, y .rows))
+
+  pub station-stored : (s : ℕ) (x : Station) → s < f .m → getD (set (f .stations) s x) s station0 ≡ x
+  station-stored s x h = getD-set-same (f .stations) s x station0 (omega (arith, y .stations, z .station-most))
+
+  pub owner-stored : (a : ℕ) (x : Station) → a < f .used → getD (set (f .stations) (rowAt f a .station) x) (rowAt f a .station) station0 ≡ x
+  owner-stored a x h = station-stored (rowAt f a .station) x (z .stations a h)
+
+  pub box-stored : (b : ℕ) (x : StorageBox) → b < f .n → getD (set (f .boxes) b x) b box0 ≡ x
+  box-stored b x h = getD-set-same (f .boxes) b x box0 (omega (arith, y .boxes, z .box-most))
+
+  pub used-stored : (a : ℕ) (w : Row) → a < f .used → getD (set (f .rows) a w) a row0 ≡ w
+  used-stored a w h = row-stored a w (omega (arith, z .rows-most))
+
+tells : {f : Floor} {c : Command} {s : Stepped} → Lengths f → StepView f c s → Told f c (s .floor) (s .outcome)
+tells y (turned k t) = record { cause = t; floor = refl }
+tells {f} y (began {s = s} {round = r} {v = v} z d) = record {
+  station = s;
+  round = r;
+  offer = v;
+  command = refl;
+  may = d;
+  next = refl;
+  row = row-stored f y z (f .used) _ (d .row);
+  beginning = station-stored f y z s _ (d .station);
+}
+tells {f} y (read-served {a = a} {b = b} z d) = read-at refl d (used-stored f y z a _ (d .used)) (box-stored f y z b _ (d .box))
+tells {f} y (write-served {a = a} {b = b} z d) = write-at refl d (used-stored f y z a _ (d .used)) (box-stored f y z b _ (d .box))
+tells {f} y (read-heard {a = a} z d q) = read-from refl d (used-stored f y z a _ (d .used))
+tells {f} y (issued {a = a} {b = b} z d r q) = record {
+  attempt = a;
+  box = b;
+  command = refl;
+  may = d;
+  reading = r;
+  quorum = q;
+  revision = refl;
+  row = used-stored f y z a _ (d .used);
+  owner = owner-stored f y z a _ (d .used);
+}
+tells {f} y (write-heard {a = a} z d q) = write-from refl d (used-stored f y z a _ (d .used))
+tells {f} y (decided {a = a} {b = b} z d r q t) = record {
+  attempt = a;
+  box = b;
+  answer = record { command = refl; may = d; writing = r; quorum = q; row = used-stored f y z a _ (d .used) };
+  taken = t;
+  written = refl;
+  owner = owner-stored f y z a _ (d .used);
+}
+tells {f} y (aborted {a = a} {b = b} z d r q t) = record {
+  box = b;
+  answer = record { command = refl; may = d; writing = r; quorum = q; row = used-stored f y z a _ (d .used) };
+  taken = t;
+  owner = owner-stored f y z a _ (d .used);
+}
+tells {f} y (stopped {b = b} z d) = record { command = refl; may = d; storage = box-stored f y z b _ (d .box) }
+tells {f} y (left {s = s} z d) = record { command = refl; may = d; station = station-stored f y z s _ (d .station) }
+
+pub apply-tells : (f : Floor) (c : Command) → Lengths f → Told f c (applyOf f c .floor) (applyOf f c .outcome)
+apply-tells f c y = tells y (apply-view f c)
+
+pub step-tells : (f : Floor) (r : List ℕ) → Lengths f → Told f (commandOf r) (stepOf f r .floor) (stepOf f r .outcome)
+unfolding stepOf
+step-tells f r = apply-tells f (commandOf r)
