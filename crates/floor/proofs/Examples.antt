@@ -2,7 +2,7 @@
 use Prim.Native.Nat.{ℕ}
 use mathlib.Core.List.{List, [], _∷_}
 use mathlib.Core.Path.{_≡_, refl}
-use mathlib.Core.Bool.{true, false}
+use mathlib.Core.Bool.{Bool, true, false}
 use lib.ListN.{replicate}
 use lib.Count.{ones, onesIn}
 use Rattle.base.specs.Choice.{if_then_else_}
@@ -10,7 +10,7 @@ use Rattle.base.specs.Numbers.{sizesRight}
 use Rattle.protocol.specs.Mask.{bit, setBit, countBelow}
 use Rattle.register.specs.Register.{rmwRead, rmwWrite, takes}
 use Rattle.register.specs.declared.Register.{Register}
-use Rattle.floor.specs.State.{boxAt, readSlot0, writeSlot0, standing, atQuorum}
+use Rattle.floor.specs.State.{boxAt, rowAt, writeAt, readSlot0, writeSlot0, standing, atQuorum}
 use Rattle.floor.specs.Sound.{stationsBelow, soundOf}
 use Rattle.floor.specs.Floors.{newFloorOf}
 use Rattle.floor.specs.Commands.{allZero, between, requestOf, departureOf, commandOf, encodeOf, placeIn}
@@ -35,6 +35,15 @@ abbrev after : Floor → List Command → Floor
 after f [] = f
 after f (c ∷ l) = after (stepOf f (encodeOf c) .floor) l
 
+abbrev takenAt : Floor → ℕ → Bool
+takenAt f b = writeAt (rowAt f 0) b .taken
+
+abbrev held : Floor → ℕ → Register
+held f b = boxAt f b .register
+
+abbrev register : ℕ → ℕ → ℕ → Register
+register r w v = record { read = r; write = w; value = v }
+
 -- "G: n = 3, answers (0, 0) and (16, 7) to rank 33: it writes 7."
 abbrev rowG : Row
 rowG =
@@ -58,6 +67,21 @@ example-h : atQuorum (setBit (setBit 0 0) 1) 3 ≡ true
 unfolding setBit countBelow ones onesIn atQuorum
 example-h = refl
 
+one-answer : atQuorum (setBit 0 0) 3 ≡ false
+unfolding setBit countBelow ones onesIn atQuorum
+one-answer = refl
+
+-- G as steps: attempt 0 (rank 16, 7) has written at box 1; attempt 1 (rank 33, 9) reads (0, 0) at box 0 and (16, 7) at box 1.
+abbrev runG : List Command
+runG = Begin 0 1 7 ∷ ServeRead 0 0 ∷ DeliverRead 0 0 ∷ ServeRead 0 1 ∷ DeliverRead 0 1 ∷ ServeWrite 0 1
+    ∷ Begin 1 2 9 ∷ ServeRead 1 0 ∷ DeliverRead 1 0 ∷ ServeRead 1 1 ∷ DeliverRead 1 1 ∷ []
+
+example-g-run : said (newFloorOf 3 2 .floor) runG
+    ≡ Begun 0 ∷ Served 0 ∷ Received 0 ∷ Served 0 ∷ WriteIssued 7 ∷ Served 0
+    ∷ Begun 1 ∷ Served 1 ∷ Received 1 ∷ Served 1 ∷ WriteIssued 7 ∷ []
+unfolding if_then_else_ sizesRight newFloorOf stepOf applyOf playOf soundOf stationsBelow commandOf between allZero requestOf departureOf placeIn beginRefusal serveRefusal deliverRefusal stopRefusal leaveRefusal standing bit setBit countBelow ones onesIn atQuorum begun newRow readsWaiting servedRead rmwRead servedWrite rmwWrite takes deliveredRead better bestOf revisionFrom revisionOf issued writesWaiting deliveredWrite stillTaken allTaken
+example-g-run = refl
+
 -- "I: n = 3. Attempt 0 (rank 16, 7) has read at boxes 0 and 1. Attempt 1 (rank 17, 9) reads and writes at 1 and 2 and decides 9.
 -- Attempt 0's write is taken at 0, not at 1: it aborts. Its write at 2, served after that, is not taken."
 abbrev runI : List Command
@@ -73,3 +97,10 @@ example-i : said (newFloorOf 3 2 .floor) runI
     ∷ Served 0 ∷ Received 0 ∷ Served 0 ∷ Aborted 0 ∷ Served 0 ∷ []
 unfolding if_then_else_ sizesRight newFloorOf stepOf applyOf playOf soundOf stationsBelow commandOf between allZero requestOf departureOf placeIn beginRefusal serveRefusal deliverRefusal stopRefusal leaveRefusal standing bit setBit countBelow ones onesIn atQuorum begun newRow readsWaiting servedRead rmwRead servedWrite rmwWrite takes deliveredRead better bestOf revisionFrom revisionOf issued writesWaiting deliveredWrite stillTaken allTaken
 example-i = refl
+
+-- the answers to attempt 0's write, and what the boxes then hold
+example-i-end : let f = after (newFloorOf 3 2 .floor) runI in
+    (takenAt f 0 ∷ takenAt f 1 ∷ takenAt f 2 ∷ [] ≡ true ∷ false ∷ false ∷ [])
+    × (held f 0 ∷ held f 1 ∷ held f 2 ∷ [] ≡ register 16 16 7 ∷ register 17 17 9 ∷ register 17 17 9 ∷ [])
+unfolding if_then_else_ sizesRight newFloorOf stepOf applyOf playOf soundOf stationsBelow commandOf between allZero requestOf departureOf placeIn beginRefusal serveRefusal deliverRefusal stopRefusal leaveRefusal standing bit setBit countBelow ones onesIn atQuorum begun newRow readsWaiting servedRead rmwRead servedWrite rmwWrite takes deliveredRead better bestOf revisionFrom revisionOf issued writesWaiting deliveredWrite stillTaken allTaken
+example-i-end = (refl, refl)

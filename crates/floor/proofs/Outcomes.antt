@@ -1,24 +1,17 @@
 -- What each thing said tells: of which command it came, which tests that passed, and what then stands where the step stored. The
 -- arrays have their lengths, so that what is stored can be read back.
-use Prim.Native.Nat.{ℕ, _<_}
-use native.Mathlib.Omega.{arith}
+use Prim.Native.Nat.{ℕ}
 use mathlib.Core.Path.{_≡_, refl}
-use mathlib.Core.Bool.{Bool, true, false}
+use mathlib.Core.Bool.{true, false}
 use mathlib.Core.List.{List}
-use lib.ListN.{getD, set}
-use lib.Seq.{getD-set-same}
 use Rattle.register.specs.Register.{rmwRead, rmwWrite}
-use Rattle.register.specs.declared.StorageBox.{StorageBox}
-use Rattle.floor.specs.State.{box0, station0, row0, boxAt, stationAt, rowAt, isReading, isWriting, atQuorum}
-use Rattle.floor.specs.Sound.{Sound}
+use Rattle.floor.specs.State.{boxAt, stationAt, rowAt, isReading, isWriting, atQuorum}
 use Rattle.floor.specs.Commands.{commandOf}
 use Rattle.floor.specs.Rows.{newRow, revisionOf, allTaken}
 use Rattle.floor.specs.Rows as rows
 use Rattle.floor.specs.Effects.{withState, withRegister, rowServedRead, rowServedWrite}
 use Rattle.floor.specs.Step.{applyOf, stepOf}
 use Rattle.floor.specs.declared.Phase.the-variants as phase
-use Rattle.floor.specs.declared.Station.{Station}
-use Rattle.floor.specs.declared.Row.{Row}
 use Rattle.floor.specs.declared.Floor.{Floor}
 use Rattle.floor.specs.declared.Stepped.{Stepped}
 use Rattle.floor.specs.declared.Outcome.{Outcome}
@@ -27,7 +20,7 @@ use Rattle.floor.specs.declared.Command.{Command}
 use Rattle.floor.specs.declared.Command.the-variants.{Begin, ServeRead, ServeWrite, DeliverRead, DeliverWrite, Stop, Leave}
 use Rattle.floor.proofs.Forms.{ownerAt, readHeard, writeHeard, beginner, decider}
 use Rattle.floor.proofs.View.{CanBegin, CanServe, CanDeliver, CanStop, CanLeave, TurnedBack, StepView, turned, began, read-served, write-served, read-heard, issued, write-heard, decided, aborted, stopped, left, apply-view}
-use Rattle.floor.proofs.Keeps.{Lengths}
+use Rattle.floor.proofs.Keeps.{Lengths, row-stored, station-stored, owner-stored, box-stored, used-stored}
 
 module _ (f : Floor) (c : Command) (g : Floor) where
   pub record BegunBy (a : ℕ) : Type 0 where
@@ -107,23 +100,6 @@ module _ (f : Floor) (c : Command) (g : Floor) where
   Told (Stopped b) = StoppedBy b
   Told (Gone s) = GoneBy s
   Told (Refused k) = RefusedBy k
-
--- what is stored is read back
-module _ (f : Floor) (y : Lengths f) (z : Sound f) where
-  pub row-stored : (a : ℕ) (w : Row) → a < 64 → getD (set (f .rows) a w) a row0 ≡ w
-  row-stored a w h = getD-set-same (f .rows) a w row0 (omega (arith, y .rows))
-
-  pub station-stored : (s : ℕ) (x : Station) → s < f .m → getD (set (f .stations) s x) s station0 ≡ x
-  station-stored s x h = getD-set-same (f .stations) s x station0 (omega (arith, y .stations, z .station-most))
-
-  pub owner-stored : (a : ℕ) (x : Station) → a < f .used → getD (set (f .stations) (rowAt f a .station) x) (rowAt f a .station) station0 ≡ x
-  owner-stored a x h = station-stored (rowAt f a .station) x (z .stations a h)
-
-  pub box-stored : (b : ℕ) (x : StorageBox) → b < f .n → getD (set (f .boxes) b x) b box0 ≡ x
-  box-stored b x h = getD-set-same (f .boxes) b x box0 (omega (arith, y .boxes, z .box-most))
-
-  pub used-stored : (a : ℕ) (w : Row) → a < f .used → getD (set (f .rows) a w) a row0 ≡ w
-  used-stored a w h = row-stored a w (omega (arith, z .rows-most))
 
 tells : {f : Floor} {c : Command} {s : Stepped} → Lengths f → StepView f c s → Told f c (s .floor) (s .outcome)
 tells y (turned k t) = record { cause = t; floor = refl }
