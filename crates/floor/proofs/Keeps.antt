@@ -1,9 +1,9 @@
 -- What every step keeps: a refused one the floor itself; each one soundness, the sizes, and the lengths of the arrays.
-use Prim.Native.Nat.{ℕ, zero, suc, _+_, _<_, _≤_}
+use Prim.Native.Nat.{ℕ, zero, suc, _<_}
 use native.Mathlib.Omega.{arith}
 use native.Mathlib.Nat.{ne-of-lt}
 use mathlib.Core.Path.{_≡_, refl, ap, subst, _∙_}
-use mathlib.Core.Bool.{Bool, true, false}
+use mathlib.Core.Bool.{true, false}
 use mathlib.Core.List.{List}
 use lib.ListN.{length, getD, set, length-set, getD-replicate}
 use lib.Seq.{getD-set-same, getD-set-other}
@@ -14,7 +14,7 @@ use Rattle.register.specs.declared.StorageBox.{StorageBox}
 use Rattle.floor.specs.State.{box0, station0, row0, unusedRow, rowAt}
 use Rattle.floor.specs.Sound.{soundOf, Sound}
 use Rattle.floor.specs.Floors.{emptyFloor, newFloorOf}
-use Rattle.floor.specs.Rows.{readsWaiting, newRow, writesWaiting, revisionOf}
+use Rattle.floor.specs.Rows.{readsWaiting, newRow, writesWaiting}
 use Rattle.floor.specs.Rows as rows
 use Rattle.floor.specs.Commands.{commandOf}
 use Rattle.floor.specs.Refusals.{refusalIn}
@@ -32,7 +32,7 @@ use Rattle.floor.specs.declared.Command.{Command}
 use Rattle.floor.specs.declared.Command.the-variants.{Begin, ServeRead, ServeWrite, DeliverRead, DeliverWrite, Stop, Leave, Malformed}
 use Rattle.floor.proofs.SoundLaws.{Sizes, sizes-mean, sound-means}
 use Rattle.floor.proofs.Standings.{clash}
-use Rattle.floor.proofs.Stores.{set-all, set-in, set-at}
+use Rattle.floor.proofs.Stores.{set-all, set-at}
 use Rattle.floor.proofs.Forms.{afterBegin}
 use Rattle.floor.proofs.StepLaws.{apply-accepted}
 use Rattle.floor.proofs.View.{StepView, turned, began, read-served, write-served, read-heard, issued, write-heard, decided, aborted, stopped, left, apply-view}

@@ -1,12 +1,12 @@
 -- Where the requests of a new row, and of a row whose write is issued, stand: waiting at every box below n.
 use Prim.Native.Nat.{ℕ, zero, suc, _<_, _≤_}
 use native.Mathlib.Omega.{arith}
-use mathlib.Core.Path.{_≡_, refl, _∙_}
+use mathlib.Core.Path.{_≡_, refl}
 use mathlib.Core.Bool.{true, false}
 use mathlib.Core.List.{List}
 use lib.ListN.{length, getD}
 use Rattle.protocol.proofs.MaskLaws.{bit-zero}
-use Rattle.floor.specs.State.{readSlot0, writeSlot0, standingOf, isWaiting, readAt, writeAt}
+use Rattle.floor.specs.State.{readSlot0, writeSlot0, standingOf, isWaiting}
 use Rattle.floor.specs.Rows.{readsWaiting, newRow, writeWaiting, writesWaiting, issued}
 use Rattle.floor.specs.declared.Stage.the-variants.{Waiting}
 use Rattle.floor.specs.declared.ReadSlot.{ReadSlot}

@@ -68,6 +68,10 @@ apply-used f c = used-rises (apply-view f c)
 pub apply-begun : (f : Floor) (c : Command) (a : ℕ) → applyOf f c .outcome ≡ Begun a → a ≡ f .used
 apply-begun f c a = begun-next a (apply-view f c)
 
+-- a row in use stays in use
+pub used-stays : (f : Floor) (c : Command) (a : ℕ) → a < f .used → a < applyOf f c .floor .used
+used-stays f c a h = omega (arith, apply-used f c)
+
 -- what an attempt keeps for good
 pub record SameAttempt (w x : Row) : Type 0 where
   pub station : x .station ≡ w .station

@@ -1,5 +1,5 @@
 -- What a step can be: turned back, or one of ten, each with the tests that it passed. A law of steps is then a function by cases.
-use Prim.Native.Nat.{ℕ, _<_, _≤_}
+use Prim.Native.Nat.{ℕ, _≤_}
 use native.Mathlib.Omega.{arith}
 use mathlib.Core.Path.{_≡_, refl, subst}
 use mathlib.Core.Logic.{_⊎_, inl, inr}
@@ -15,7 +15,6 @@ use Rattle.floor.specs.Rows.{revisionOf, allTaken}
 use Rattle.floor.specs.Refusals.{refusalIn}
 use Rattle.floor.specs.Effects.{rowHeardRead, rowHeardWrite, deliveredRead, deliveredWrite, effectIn}
 use Rattle.floor.specs.Step.{look, refused, accepted, playOf, applyOf, stepOf}
-use Rattle.floor.specs.declared.Row.{Row}
 use Rattle.floor.specs.declared.Floor.{Floor}
 use Rattle.floor.specs.declared.Changed.{Changed}
 use Rattle.floor.specs.declared.Stepped.{Stepped}
