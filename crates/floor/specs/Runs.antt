@@ -1,8 +1,7 @@
 -- The steps of a run of records, "each step given the floor that the last one left", up to the first that is refused.
-use Prim.Native.Nat.{ℕ, zero, suc, _+_}
+use Prim.Native.Nat.{ℕ, _+_}
 use mathlib.Core.List.{List, [], _∷_}
 use mathlib.Core.Bool.{Bool, true, false}
-use lib.ListN.{take, drop}
 use Rattle.base.specs.Choice.{if_then_else_}
 use Rattle.floor.specs.Step.{stepOf, isRefused}
 use Rattle.floor.specs.declared.Floor.{Floor}
@@ -10,15 +9,6 @@ use Rattle.floor.specs.declared.Stepped.{Stepped}
 use Rattle.floor.specs.declared.Ran.{Ran}
 use Rattle.floor.specs.declared.Outcome.{Outcome}
 use Rattle.floor.specs.declared.Outcome.the-variants.{Refused}
-
--- the record of 8 bytes that starts at place p of a list of bytes
-unfoldable pub recordAt : List ℕ → ℕ → List ℕ
-recordAt l p = take 8 (drop p l)
-
--- k records from place p on
-unfoldable pub recordsFrom : ℕ → List ℕ → ℕ → List (List ℕ)
-recordsFrom zero l p = []
-recordsFrom (suc k) l p = recordAt l p ∷ recordsFrom k l (p + 8)
 
 -- n steps were accepted and the last said o
 unfoldable pub runFrom : ℕ → Outcome → Floor → List (List ℕ) → Ran

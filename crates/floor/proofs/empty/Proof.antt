@@ -1,0 +1,10 @@
+use borrow.Author.Needs.{needs}
+use Rattle.floor.proofs.empty.Statement.{statement}
+use Rattle.floor.proofs.empty.Tie as tie
+
+pub empty-spec : {M : Type 1} → statement M
+empty-spec =
+    tie.close
+    (tie.spec
+    (λ c κs. search needs)
+    (λ c. cc))

@@ -1,0 +1,21 @@
+use borrow.Author.Needs.{needs}
+use mathlib.Core.Path.{refl}
+use Rattle.base.proofs.Choices.{on-true, on-false}
+use Rattle.base.proofs.Tests.{tests}
+use Rattle.floor.specs.Effects.{deliveredRead}
+use Rattle.floor.proofs.kinds.deliver_read.Statement.{statement}
+use Rattle.floor.proofs.kinds.deliver_read.Tie as tie
+
+pub deliver-read-spec : {M : Type 1} → statement M
+unfolding deliveredRead
+deliver-read-spec =
+    tie.close
+    (tie.spec
+    (λ c κs. search needs)
+    (λ c κs. search needs)
+    (λ c. rw (← c .before .before .with-bit .ensures) (on-false _ (search tests) (refl)))
+    (λ c κs. search needs)
+    (λ c. rw (← c .before .before .before .before .with-bit .ensures) (on-true _ (search tests) (on-false _ (search tests) (refl))))
+    (λ c κs. search needs)
+    (λ c κs. search needs)
+    (λ c. rw (← c .before .before .before .before .before .before .with-bit .ensures) (on-true _ (search tests) (on-true _ (search tests) (rw (c .issue .ensures, c .before .revision-of .ensures))))))

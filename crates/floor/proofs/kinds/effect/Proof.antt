@@ -1,0 +1,32 @@
+use borrow.Author.Needs.{needs}
+use Rattle.floor.proofs.EffectNeeds.{begin-needs, serve-read-needs, serve-write-needs, deliver-read-needs, deliver-write-needs}
+use Rattle.floor.proofs.kinds.effect.Statement.{statement}
+use Rattle.floor.proofs.kinds.effect.Tie as tie
+
+pub effect-spec : {M : Type 1} → statement M
+effect-spec =
+    tie.close
+    (tie.spec
+    (λ c. search needs)
+    (λ c κs. begin-needs _ _ (c .before .before .before .pre .0) (c .before .before .before .pre .1) _ _ _ (c .before .c .given .1))
+    (λ c. search needs)
+    (λ c κs. serve-read-needs _ _ (c .before .before .before .pre .0) (c .before .before .before .pre .1) _ _ (c .before .c2 .given .1))
+    (λ c. search needs)
+    (λ c κs. serve-write-needs _ _ (c .before .before .before .pre .0) (c .before .before .before .pre .1) _ _ (c .before .c3 .given .1))
+    (λ c. search needs)
+    (λ c κs. deliver-read-needs _ _ (c .before .before .before .pre .0) (c .before .before .before .pre .1) _ _ (c .before .c4 .given .1))
+    (λ c. search needs)
+    (λ c κs. deliver-write-needs _ _ (c .before .before .before .pre .0) (c .before .before .before .pre .1) _ _ (c .before .c5 .given .1))
+    (λ c. search needs)
+    (λ c κs. search needs)
+    (λ c. search needs)
+    (λ c κs. search needs)
+    (λ c. search needs)
+    (λ c. rw (c .before .before .c .given .1) (c .begin .ensures))
+    (λ c. rw (c .before .before .c2 .given .1) (c .serve-read .ensures))
+    (λ c. rw (c .before .before .c3 .given .1) (c .serve-write .ensures))
+    (λ c. rw (c .before .before .c4 .given .1) (c .deliver-read .ensures))
+    (λ c. rw (c .before .before .c5 .given .1) (c .deliver-write .ensures))
+    (λ c. rw (c .before .before .c6 .given .1) (c .stop .ensures))
+    (λ c. rw (c .before .before .c7 .given .1) (c .leave .ensures))
+    (λ c. rw (c .enum-told .given .1)))

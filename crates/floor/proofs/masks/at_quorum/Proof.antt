@@ -1,0 +1,13 @@
+use borrow.Author.Needs.{needs}
+use Rattle.floor.specs.State.{atQuorum}
+use Rattle.floor.proofs.masks.at_quorum.Statement.{statement}
+use Rattle.floor.proofs.masks.at_quorum.Tie as tie
+
+pub at-quorum-spec : {M : Type 1} → statement M
+unfolding atQuorum
+at-quorum-spec =
+    tie.close
+    (tie.spec
+    (λ c κs. search needs)
+    (λ c κs. search needs)
+    (λ c. cc))

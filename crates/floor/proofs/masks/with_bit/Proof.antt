@@ -1,0 +1,13 @@
+use borrow.Author.Needs.{needs}
+use Rattle.protocol.specs.Mask.{setBit}
+use Rattle.floor.proofs.Shifts.{one-shifted}
+use Rattle.floor.proofs.masks.with_bit.Statement.{statement}
+use Rattle.floor.proofs.masks.with_bit.Tie as tie
+
+pub with-bit-spec : {M : Type 1} → statement M
+unfolding setBit
+with-bit-spec =
+    tie.close
+    (tie.spec
+    (λ c. search needs)
+    (λ c. rw (one-shifted (c .args .b) (c .pre))))

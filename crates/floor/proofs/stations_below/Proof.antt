@@ -1,0 +1,31 @@
+use borrow.Author.Needs.{needs}
+use Prim.Native.Nat.{_≤_, _-_}
+use native.Mathlib.Omega.{arith}
+use native.Mathlib.Numerals.{add-one}
+use mathlib.Core.Path.{_≡_, refl}
+use Rattle.floor.specs.Sound.{stationsBelow}
+use Rattle.floor.proofs.stations_below.Statement.{statement}
+use Rattle.floor.proofs.stations_below.Tie as tie
+
+abbrev Inv-loop : tie.InvT-loop
+Inv-loop f ok₀ k₀ ok k = (k ≤ f .used) × (ok ≡ stationsBelow (f .rows) (f .m) k)
+
+abbrev μ-loop : tie.MeasureT-loop
+μ-loop f ok₀ k₀ ok k = f .used - k
+
+pub stations-below-spec : {M : Type 1} → statement M
+unfolding stationsBelow
+stations-below-spec =
+    tie.close
+    (tie.spec
+    Inv-loop
+    μ-loop
+    (λ c. (search needs, refl))
+    (λ c. omega arith)
+    (λ c. omega arith)
+    (λ c. omega arith)
+    (λ c κs. omega arith)
+    (λ c. omega arith)
+    (λ c. omega arith)
+    (λ c. (omega arith, rw add-one (cc)))
+    (λ c. let e : c .before .loop .k ≡ c .before .before .args .t1 .used = omega arith in cc))
