@@ -41,6 +41,10 @@ takenAt f b = writeAt (rowAt f 0) b .taken
 abbrev held : Floor → ℕ → Register
 held f b = boxAt f b .register
 
+-- at boxes 0, 1 and 2
+abbrev atEach : {A : Type 0} → (Floor → ℕ → A) → Floor → List A
+atEach x f = x f 0 ∷ x f 1 ∷ x f 2 ∷ []
+
 abbrev register : ℕ → ℕ → ℕ → Register
 register r w v = record { read = r; write = w; value = v }
 
@@ -58,12 +62,12 @@ rowG =
       writers = 0;
     }
 
-example-g : revisionOf rowG 3 ≡ 7
+pub example-g : revisionOf rowG 3 ≡ 7
 unfolding if_then_else_ bit setBit better bestOf revisionFrom revisionOf
 example-g = refl
 
 -- "H: n = 3, two answers (0, 0) from two boxes: a majority."
-example-h : atQuorum (setBit (setBit 0 0) 1) 3 ≡ true
+pub example-h : atQuorum (setBit (setBit 0 0) 1) 3 ≡ true
 unfolding setBit countBelow ones onesIn atQuorum
 example-h = refl
 
@@ -76,11 +80,9 @@ abbrev runG : List Command
 runG = Begin 0 1 7 ∷ ServeRead 0 0 ∷ DeliverRead 0 0 ∷ ServeRead 0 1 ∷ DeliverRead 0 1 ∷ ServeWrite 0 1
     ∷ Begin 1 2 9 ∷ ServeRead 1 0 ∷ DeliverRead 1 0 ∷ ServeRead 1 1 ∷ DeliverRead 1 1 ∷ []
 
-example-g-run : said (newFloorOf 3 2 .floor) runG
-    ≡ Begun 0 ∷ Served 0 ∷ Received 0 ∷ Served 0 ∷ WriteIssued 7 ∷ Served 0
+abbrev saidG : List Outcome
+saidG = Begun 0 ∷ Served 0 ∷ Received 0 ∷ Served 0 ∷ WriteIssued 7 ∷ Served 0
     ∷ Begun 1 ∷ Served 1 ∷ Received 1 ∷ Served 1 ∷ WriteIssued 7 ∷ []
-unfolding if_then_else_ sizesRight newFloorOf stepOf applyOf playOf soundOf stationsBelow commandOf between allZero requestOf departureOf placeIn beginRefusal serveRefusal deliverRefusal stopRefusal leaveRefusal standing bit setBit countBelow ones onesIn atQuorum begun newRow readsWaiting servedRead rmwRead servedWrite rmwWrite takes deliveredRead better bestOf revisionFrom revisionOf issued writesWaiting deliveredWrite stillTaken allTaken
-example-g-run = refl
 
 -- "I: n = 3. Attempt 0 (rank 16, 7) has read at boxes 0 and 1. Attempt 1 (rank 17, 9) reads and writes at 1 and 2 and decides 9.
 -- Attempt 0's write is taken at 0, not at 1: it aborts. Its write at 2, served after that, is not taken."
@@ -90,17 +92,19 @@ runI = Begin 0 1 7 ∷ ServeRead 0 0 ∷ DeliverRead 0 0 ∷ ServeRead 0 1 ∷ D
     ∷ ServeWrite 1 1 ∷ DeliverWrite 1 1 ∷ ServeWrite 1 2 ∷ DeliverWrite 1 2
     ∷ ServeWrite 0 0 ∷ DeliverWrite 0 0 ∷ ServeWrite 0 1 ∷ DeliverWrite 0 1 ∷ ServeWrite 0 2 ∷ []
 
-example-i : said (newFloorOf 3 2 .floor) runI
-    ≡ Begun 0 ∷ Served 0 ∷ Received 0 ∷ Served 0 ∷ WriteIssued 7
+abbrev saidI : List Outcome
+saidI = Begun 0 ∷ Served 0 ∷ Received 0 ∷ Served 0 ∷ WriteIssued 7
     ∷ Begun 1 ∷ Served 1 ∷ Received 1 ∷ Served 1 ∷ WriteIssued 9
     ∷ Served 1 ∷ Received 1 ∷ Served 1 ∷ Decided 9
     ∷ Served 0 ∷ Received 0 ∷ Served 0 ∷ Aborted 0 ∷ Served 0 ∷ []
-unfolding if_then_else_ sizesRight newFloorOf stepOf applyOf playOf soundOf stationsBelow commandOf between allZero requestOf departureOf placeIn beginRefusal serveRefusal deliverRefusal stopRefusal leaveRefusal standing bit setBit countBelow ones onesIn atQuorum begun newRow readsWaiting servedRead rmwRead servedWrite rmwWrite takes deliveredRead better bestOf revisionFrom revisionOf issued writesWaiting deliveredWrite stillTaken allTaken
-example-i = refl
 
--- the answers to attempt 0's write, and what the boxes then hold
-example-i-end : let f = after (newFloorOf 3 2 .floor) runI in
-    (takenAt f 0 ∷ takenAt f 1 ∷ takenAt f 2 ∷ [] ≡ true ∷ false ∷ false ∷ [])
-    × (held f 0 ∷ held f 1 ∷ held f 2 ∷ [] ≡ register 16 16 7 ∷ register 17 17 9 ∷ register 17 17 9 ∷ [])
+pub record Worked : Type 0 where
+  pub g : said (newFloorOf 3 2 .floor) runG ≡ saidG
+  pub i : said (newFloorOf 3 2 .floor) runI ≡ saidI
+  -- the answers to attempt 0's write, and what the boxes then hold
+  pub answers : atEach takenAt (after (newFloorOf 3 2 .floor) runI) ≡ true ∷ false ∷ false ∷ []
+  pub boxes : atEach held (after (newFloorOf 3 2 .floor) runI) ≡ register 16 16 7 ∷ register 17 17 9 ∷ register 17 17 9 ∷ []
+
+pub worked : Worked
 unfolding if_then_else_ sizesRight newFloorOf stepOf applyOf playOf soundOf stationsBelow commandOf between allZero requestOf departureOf placeIn beginRefusal serveRefusal deliverRefusal stopRefusal leaveRefusal standing bit setBit countBelow ones onesIn atQuorum begun newRow readsWaiting servedRead rmwRead servedWrite rmwWrite takes deliveredRead better bestOf revisionFrom revisionOf issued writesWaiting deliveredWrite stillTaken allTaken
-example-i-end = (refl, refl)
+worked = record { g = refl; i = refl; answers = refl; boxes = refl }
