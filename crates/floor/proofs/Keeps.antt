@@ -35,24 +35,11 @@ use Rattle.floor.proofs.Standings.{clash}
 use Rattle.floor.proofs.Stores.{set-all, set-at}
 use Rattle.floor.proofs.Forms.{afterBegin}
 use Rattle.floor.proofs.StepLaws.{apply-accepted}
-use Rattle.floor.proofs.View.{StepView, turned, began, read-served, write-served, read-heard, issued, write-heard, decided, aborted, stopped, left, apply-view}
+use Rattle.floor.proofs.View.{StepView, turned, began, read-served, write-served, read-heard, issued, write-heard, decided, aborted, stopped, left, apply-view, apply-refusal}
 
 -- "Floor, record and reply stay unchanged": a refused step hands back the very floor
-same : {f : Floor} {c : Command} {s : Stepped} → StepView f c s → isRefused (s .outcome) ≡ true → s .floor ≡ f
-same (turned k t) e = refl
-same (began z d) e = clash e refl
-same (read-served z d) e = clash e refl
-same (write-served z d) e = clash e refl
-same (read-heard z d q) e = clash e refl
-same (issued z d r q) e = clash e refl
-same (write-heard z d q) e = clash e refl
-same (decided z d r q t) e = clash e refl
-same (aborted z d r q t) e = clash e refl
-same (stopped z d) e = clash e refl
-same (left z d) e = clash e refl
-
 pub refused-same : (f : Floor) (c : Command) → isRefused (applyOf f c .outcome) ≡ true → applyOf f c .floor ≡ f
-refused-same f c = same (apply-view f c)
+refused-same f c e = ap (λ (s : Stepped). s .floor) (apply-refusal f c e .is)
 
 pub step-refused-same : (f : Floor) (r : List ℕ) → isRefused (stepOf f r .outcome) ≡ true → stepOf f r .floor ≡ f
 unfolding stepOf
