@@ -43,15 +43,18 @@ bytes-before x s b =
     byte-before (x / 16777216) _ (byte-before (x / 65536) _ (byte-before (x / 256) _ (byte-before x s b)))
 
 -- ---- numbers stored one behind the other into a list that they fill: their bytes are all that it then holds
-pub two-words : (s : List ℕ) (x y : ℕ) → length s ≡ 8 → withWord (withWord s 0 x) 4 y ≡ bytesOf x ++ bytesOf y
+pub two-words : (s s₁ s₂ : List ℕ) (x y : ℕ) → length s ≡ 8 → s₁ ≡ withWord s 0 x → s₂ ≡ withWord s₁ 4 y → s₂ ≡ bytesOf x ++ bytesOf y
 unfolding withWord
-two-words s x y h = ap (λ (r : List ℕ). bytesOf x ++ (bytesOf y ++ r)) (drop-drop 4 4 s ∙ drop-of-length-le s {i = 8} (omega (arith, h)))
+two-words s s₁ s₂ x y h e₁ e₂ =
+    e₂ ∙ ap (λ (t : List ℕ). withWord t 4 y) e₁ ∙
+    ap (λ (t : List ℕ). bytesOf x ++ (bytesOf y ++ t)) (drop-drop 4 4 s ∙ drop-of-length-le s {i = 8} (omega (arith, h)))
 
-pub three-words : (s : List ℕ) (x y z : ℕ) → length s ≡ 12
-    → withWord (withWord (withWord s 0 x) 4 y) 8 z ≡ bytesOf x ++ (bytesOf y ++ bytesOf z)
+pub three-words : (s s₁ s₂ s₃ : List ℕ) (x y z : ℕ) → length s ≡ 12 → s₁ ≡ withWord s 0 x → s₂ ≡ withWord s₁ 4 y → s₃ ≡ withWord s₂ 8 z
+    → s₃ ≡ bytesOf x ++ (bytesOf y ++ bytesOf z)
 unfolding withWord
-three-words s x y z h =
-    ap (λ (r : List ℕ). bytesOf x ++ (bytesOf y ++ (bytesOf z ++ r)))
+three-words s s₁ s₂ s₃ x y z h e₁ e₂ e₃ =
+    e₃ ∙ ap (λ (t : List ℕ). withWord t 8 z) (e₂ ∙ ap (λ (t : List ℕ). withWord t 4 y) e₁) ∙
+    ap (λ (t : List ℕ). bytesOf x ++ (bytesOf y ++ (bytesOf z ++ t)))
     (ap (drop 4) (drop-drop 4 4 s) ∙ drop-drop 4 8 s ∙ drop-of-length-le s {i = 12} (omega (arith, h)))
 
 -- ---- the number whose bytes stand at a place

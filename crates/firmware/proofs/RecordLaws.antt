@@ -12,6 +12,11 @@ use Rattle.firmware.proofs.ByteLaws.{bytes-before, word-of-bytes, word-
 same-register : {x : Register} {a b c : ℕ} → a ≡ x .read → b ≡ x .write → c ≡ x .value → record { read = a; write = b; value = c } ≡ x
 same-register e f g = rw (e, f, g)
 
+-- three words that were read are the decoded register
+pub decode-words : (s : List ℕ) {a b c : ℕ} → a ≡ wordAt s 0 → b ≡ wordAt s 4 → c ≡ wordAt s 8 → record { read = a; write = b; value = c } ≡ decode s
+unfolding decode
+decode-words s e f g = same-register e f g
+
 -- what was encoded is decoded
 pub decode-encode : (x : Register) → Fits32 x → decode (encode x) ≡ x
 unfolding encode decode wordAt

@@ -7,8 +7,10 @@ use Rattle.firmware.proofs.store.Tie as tie
 returns : tie.Need-returns
 unfolding encode
 returns c =
-    let a = c .before .before .before .before .before .before .before .before .before .before .before .before .before in
-    cc (three-words (a .args .s .now) (a .args .x .read) (a .args .x .write) (a .args .x .value) (a .pre))
+    let second = c .before .before .before .before .before .before in
+    let first = second .before .before .before .before in
+    let start = first .before .before .before in
+    three-words _ _ _ _ _ _ _ (start .pre) (first .put-u32 .ensures) (second .put-u322 .ensures) (c .before .before .put-u323 .ensures)
 
 pub store-spec : {M : Type 1} → statement M
 store-spec =
