@@ -1,4 +1,4 @@
--- What each thing said tells: of which command it came, which tests that passed, and what then stands where the step stored. The
+-- What each thing said means: of which command it came, which tests that passed, and what then stands where the step stored. The
 -- arrays have their lengths, so that what is stored can be read back.
 use Prim.Native.Nat.{ℕ}
 use mathlib.Core.Path.{_≡_, refl}
@@ -90,20 +90,20 @@ module _ (f : Floor) (c : Command) (g : Floor) where
     pub cause : TurnedBack f c k
     pub floor : g ≡ f
 
-  abbrev pub Told : Outcome → Type 0
-  Told (Begun a) = BegunBy a
-  Told (Served a) = ServedBy a
-  Told (Received a) = ReceivedBy a
-  Told (Aborted a) = AbortedBy a
-  Told (WriteIssued v) = IssuedBy v
-  Told (Decided v) = DecidedBy v
-  Told (Stopped b) = StoppedBy b
-  Told (Gone s) = GoneBy s
-  Told (Refused k) = RefusedBy k
+  abbrev pub Meaning : Outcome → Type 0
+  Meaning (Begun a) = BegunBy a
+  Meaning (Served a) = ServedBy a
+  Meaning (Received a) = ReceivedBy a
+  Meaning (Aborted a) = AbortedBy a
+  Meaning (WriteIssued v) = IssuedBy v
+  Meaning (Decided v) = DecidedBy v
+  Meaning (Stopped b) = StoppedBy b
+  Meaning (Gone s) = GoneBy s
+  Meaning (Refused k) = RefusedBy k
 
-tells : {f : Floor} {c : Command} {s : Stepped} → Lengths f → StepView f c s → Told f c (s .floor) (s .outcome)
-tells y (turned k t) = record { cause = t; floor = refl }
-tells {f} y (began {s = s} {round = r} {v = v} z d) = record {
+meaning : {f : Floor} {c : Command} {s : Stepped} → Lengths f → StepView f c s → Meaning f c (s .floor) (s .outcome)
+meaning y (turned k t) = record { cause = t; floor = refl }
+meaning {f} y (began {s = s} {round = r} {v = v} z d) = record {
   station = s;
   round = r;
   offer = v;
@@ -113,10 +113,10 @@ tells {f} y (began {s = s} {round = r} {v = v} z d) = record {
   row = row-stored f y z (f .used) _ (d .row);
   beginning = station-stored f y z s _ (d .station);
 }
-tells {f} y (read-served {a = a} {b = b} z d) = read-at refl d (used-stored f y z a _ (d .used)) (box-stored f y z b _ (d .box))
-tells {f} y (write-served {a = a} {b = b} z d) = write-at refl d (used-stored f y z a _ (d .used)) (box-stored f y z b _ (d .box))
-tells {f} y (read-heard {a = a} z d q) = read-from refl d (used-stored f y z a _ (d .used))
-tells {f} y (issued {a = a} {b = b} z d r q) = record {
+meaning {f} y (read-served {a = a} {b = b} z d) = read-at refl d (used-stored f y z a _ (d .used)) (box-stored f y z b _ (d .box))
+meaning {f} y (write-served {a = a} {b = b} z d) = write-at refl d (used-stored f y z a _ (d .used)) (box-stored f y z b _ (d .box))
+meaning {f} y (read-heard {a = a} z d q) = read-from refl d (used-stored f y z a _ (d .used))
+meaning {f} y (issued {a = a} {b = b} z d r q) = record {
   attempt = a;
   box = b;
   command = refl;
@@ -127,8 +127,8 @@ tells {f} y (issued {a = a} {b = b} z d r q) = record {
   row = used-stored f y z a _ (d .used);
   owner = owner-stored f y z a _ (d .used);
 }
-tells {f} y (write-heard {a = a} z d q) = write-from refl d (used-stored f y z a _ (d .used))
-tells {f} y (decided {a = a} {b = b} z d r q t) = record {
+meaning {f} y (write-heard {a = a} z d q) = write-from refl d (used-stored f y z a _ (d .used))
+meaning {f} y (decided {a = a} {b = b} z d r q t) = record {
   attempt = a;
   box = b;
   answer = record { command = refl; may = d; writing = r; quorum = q; row = used-stored f y z a _ (d .used) };
@@ -136,18 +136,18 @@ tells {f} y (decided {a = a} {b = b} z d r q t) = record {
   written = refl;
   owner = owner-stored f y z a _ (d .used);
 }
-tells {f} y (aborted {a = a} {b = b} z d r q t) = record {
+meaning {f} y (aborted {a = a} {b = b} z d r q t) = record {
   box = b;
   answer = record { command = refl; may = d; writing = r; quorum = q; row = used-stored f y z a _ (d .used) };
   taken = t;
   owner = owner-stored f y z a _ (d .used);
 }
-tells {f} y (stopped {b = b} z d) = record { command = refl; may = d; storage = box-stored f y z b _ (d .box) }
-tells {f} y (left {s = s} z d) = record { command = refl; may = d; station = station-stored f y z s _ (d .station) }
+meaning {f} y (stopped {b = b} z d) = record { command = refl; may = d; storage = box-stored f y z b _ (d .box) }
+meaning {f} y (left {s = s} z d) = record { command = refl; may = d; station = station-stored f y z s _ (d .station) }
 
-pub apply-tells : (f : Floor) (c : Command) → Lengths f → Told f c (applyOf f c .floor) (applyOf f c .outcome)
-apply-tells f c y = tells y (apply-view f c)
+pub apply-means : (f : Floor) (c : Command) → Lengths f → Meaning f c (applyOf f c .floor) (applyOf f c .outcome)
+apply-means f c y = meaning y (apply-view f c)
 
-pub step-tells : (f : Floor) (r : List ℕ) → Lengths f → Told f (commandOf r) (stepOf f r .floor) (stepOf f r .outcome)
+pub step-means : (f : Floor) (r : List ℕ) → Lengths f → Meaning f (commandOf r) (stepOf f r .floor) (stepOf f r .outcome)
 unfolding stepOf
-step-tells f r = apply-tells f (commandOf r)
+step-means f r = apply-means f (commandOf r)

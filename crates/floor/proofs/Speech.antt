@@ -3,7 +3,7 @@ use Prim.Native.Nat.{ℕ, _≤_}
 use native.Mathlib.Omega.{arith}
 use mathlib.Core.Path.{_≡_, refl, ap}
 use mathlib.Core.Logic.{_⊎_, inl, inr}
-use mathlib.Core.Bool.{true, false}
+use mathlib.Core.Bool.{true}
 use mathlib.Core.List.{List}
 use Rattle.floor.specs.Commands.{commandOf, attemptIn}
 use Rattle.floor.specs.Step.{numberOf, isRefused, applyOf, stepOf}
@@ -13,7 +13,6 @@ use Rattle.floor.specs.declared.Outcome.{Outcome}
 use Rattle.floor.specs.declared.Outcome.the-variants.{Begun, Served, Received, Aborted, WriteIssued, Decided, Stopped, Gone, Refused}
 use Rattle.floor.specs.declared.Command.{Command}
 use Rattle.floor.specs.declared.Command.the-variants.{Begin, ServeRead, ServeWrite, DeliverRead, DeliverWrite, Stop, Leave}
-use Rattle.floor.proofs.Standings.{clash}
 use Rattle.floor.proofs.View.{StepView, turned, began, read-served, write-served, read-heard, issued, write-heard, decided, aborted, stopped, left, apply-view, apply-refusal}
 
 -- c is a begin
@@ -59,18 +58,7 @@ pub step-says : (f : Floor) (r : List ℕ) → SaidBy (commandOf r) (stepOf f r 
 unfolding stepOf
 step-says f r = apply-says f (commandOf r)
 
--- an accepted step has the number 0, a refused one a number from 6 to 14
-pub accepted-number : (o : Outcome) → isRefused o ≡ false → numberOf o ≡ 0
-accepted-number (Begun a) e = refl
-accepted-number (Served a) e = refl
-accepted-number (Received a) e = refl
-accepted-number (Aborted a) e = refl
-accepted-number (WriteIssued v) e = refl
-accepted-number (Decided v) e = refl
-accepted-number (Stopped b) e = refl
-accepted-number (Gone s) e = refl
-accepted-number (Refused k) e = clash refl e
-
+-- a refused step has a number from 6 to 14
 pub refused-number : (f : Floor) (c : Command) → isRefused (applyOf f c .outcome) ≡ true → (6 ≤ numberOf (applyOf f c .outcome)) × (numberOf (applyOf f c .outcome) ≤ 14)
 refused-number f c e =
     let r = apply-refusal f c e in
