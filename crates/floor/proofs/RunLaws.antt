@@ -18,6 +18,7 @@ use Rattle.floor.specs.Step.{isRefused, rowPlace, boxPlace, stationPlace
 use Rattle.base.specs.Records.{recordAt, recordsFrom}
 use Rattle.base.proofs.RecordLaws.{record-whole}
 use Rattle.floor.specs.Runs.{runFrom}
+use Rattle.floor.proofs.Forms.{partsAt}
 use Rattle.floor.proofs.StepLaws.{apply-refused, apply-accepted}
 use Rattle.floor.proofs.Keeps.{apply-keeps, refused-same, effect-said}
 use Rattle.floor.specs.declared.Floor.{Floor}
@@ -58,10 +59,7 @@ run-ends f l count k at o h =
     let e : count - k ≡ 0 = omega arith in
     subst (λ (m : ℕ). record { floor = f; accepted = k; last = o } ≡ runFrom k o f (recordsFrom m l at)) (sym e) refl
 
--- what the loop reads out of the floor at the places i, b and j, and the floor once it has stored there
-abbrev pub partsAt : Floor → ℕ → ℕ → ℕ → Parts
-partsAt f i b j = record { n = f .n; m = f .m; used = f .used; row = getD (f .rows) i row0; storage = getD (f .boxes) b box0; station = getD (f .stations) j station0 }
-
+-- the floor once the loop has stored parts at the places i, b and j
 abbrev pub storedAt : Floor → ℕ → ℕ → ℕ → Parts → Floor
 storedAt f i b j p = record { n = f .n; m = f .m; used = p .used; boxes = set (f .boxes) b (p .storage); stations = set (f .stations) j (p .station); rows = set (f .rows) i (p .row) }
 
