@@ -4,7 +4,8 @@ use native.Mathlib.Omega.{arith}
 use mathlib.Core.Path.{_≡_, refl}
 use lib.ListN.{length}
 use Rattle.base.specs.Choice.{if_then_else_}
-use Rattle.floor.specs.Commands.{word16, word32, allZero, between, requestOf, departureOf, commandOf, encodeOf}
+use Rattle.base.specs.Numbers.{word16, word32}
+use Rattle.floor.specs.Commands.{allZero, between, requestOf, departureOf, commandOf, encodeOf}
 use Rattle.floor.specs.declared.Command.{Command}
 use Rattle.floor.specs.declared.Command.the-variants.{Begin, ServeRead, ServeWrite, DeliverRead, DeliverWrite, Stop, Leave, Malformed}
 

@@ -174,7 +174,7 @@ fn empty(n: u8, m: u8) -> Floor
 pub fn new_floor(n: u8, m: u8) -> NewFloor
     ensures { λ r. ⌜ r ≡ newFloorOf n m ⌝ }
 {
-    if !states::sizes_right(n, m) {
+    if !base::sizes_right(n, m) {
         return NewFloor {
             floor: empty(1, 1),
             refusal: 3,
@@ -205,7 +205,7 @@ fn stations_below(f: Floor) -> bool
 fn sound(f: Floor) -> bool
     ensures { λ r. ⌜ r ≡ soundOf f ⌝ }
 {
-    if !states::sizes_right(f.n, f.m) {
+    if !base::sizes_right(f.n, f.m) {
         return false;
     }
     if 64 < f.used {
