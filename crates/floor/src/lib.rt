@@ -19,6 +19,12 @@ mod commands;
 mod rows;
 mod kinds;
 
+// Tests that callers of a step make of what it hands back.
+pub use states::busy;
+pub use states::gone;
+pub use states::number;
+pub use states::refused;
+
 // What a station does, with the attempt that it is in.
 pub enum Phase {
     Idle,
@@ -202,7 +208,7 @@ fn stations_below(f: Floor) -> bool
 }
 
 // Refusal 6 does not apply.
-fn sound(f: Floor) -> bool
+pub fn sound(f: Floor) -> bool
     ensures { λ r. ⌜ r ≡ soundOf f ⌝ }
 {
     if !base::sizes_right(f.n, f.m) {

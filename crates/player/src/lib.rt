@@ -4,12 +4,10 @@ ghost use lib.ListN.{length};
 ghost use Prim.Native.Nat.{_/_};
 ghost use Rattle.base.specs.Records.{recordsFrom};
 ghost use Rattle.floor.specs.Floors.{newFloorOf};
-ghost use Rattle.floor.specs.Step.{numberOf};
 ghost use Rattle.floor.specs.Runs.{runOf};
 ghost use Rattle.player.specs.Played.{ofRun, playedOf, lastRank};
 use drill_file::Header;
 use floor::Floor;
-use floor::Outcome;
 
 // The floor after the accepted steps, how many they are, and the refusal, 0 if none. Steps are numbered from 0, so the step that
 // was turned back has the number `accepted`.
@@ -17,23 +15,6 @@ pub struct Played {
     pub floor: Floor,
     pub accepted: usize,
     pub refusal: u8,
-}
-
-// Document 01's number of an outcome.
-fn number(o: Outcome) -> u8
-    ensures { λ r. ⌜ r ≡ numberOf o ⌝ }
-{
-    match o {
-        Outcome::Begun(_) => 0,
-        Outcome::Served(_) => 0,
-        Outcome::Received(_) => 0,
-        Outcome::Aborted(_) => 0,
-        Outcome::WriteIssued(_) => 0,
-        Outcome::Decided(_) => 0,
-        Outcome::Stopped(_) => 0,
-        Outcome::Gone(_) => 0,
-        Outcome::Refused(k) => k,
-    }
 }
 
 // Plays records on the new floor of n boxes and m stations.
@@ -48,7 +29,7 @@ fn play_records(n: u8, m: u8, records: &[u8]) -> Played
     Played {
         floor,
         accepted: ran.accepted,
-        refusal: number(last),
+        refusal: floor::number(last),
     }
 }
 
