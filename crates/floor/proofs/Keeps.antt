@@ -2,7 +2,7 @@
 use Prim.Native.Nat.{ℕ, zero, suc, _+_, _<_, _≤_}
 use native.Mathlib.Omega.{arith}
 use native.Mathlib.Nat.{ne-of-lt}
-use mathlib.Core.Path.{_≡_, refl, sym, ap, _∙_}
+use mathlib.Core.Path.{_≡_, refl, ap, subst, _∙_}
 use mathlib.Core.Bool.{Bool, true, false}
 use mathlib.Core.List.{List}
 use lib.ListN.{length, getD, set, length-set, getD-replicate}
@@ -10,23 +10,29 @@ use lib.Seq.{getD-set-other}
 use borrow.Author.Count.{below-more}
 use Rattle.base.specs.Numbers.{sizesRight}
 use Rattle.base.proofs.Choices.{by-test}
-use Rattle.floor.specs.State.{row0, rowAt}
+use Rattle.floor.specs.State.{row0, unusedRow, rowAt}
 use Rattle.floor.specs.Sound.{Sound}
 use Rattle.floor.specs.Floors.{emptyFloor, newFloorOf}
 use Rattle.floor.specs.Rows.{readsWaiting, newRow, writesWaiting, revisionOf}
 use Rattle.floor.specs.Rows as rows
 use Rattle.floor.specs.Commands.{commandOf}
-use Rattle.floor.specs.Step.{isRefused, refused, applyOf, stepOf}
+use Rattle.floor.specs.Refusals.{refusalIn}
+use Rattle.floor.specs.Effects.{begun, servedRead, servedWrite, deliveredRead, deliveredWrite, effectIn}
+use Rattle.floor.specs.Step.{isRefused, look, put, playOf, applyOf, stepOf}
 use Rattle.floor.specs.declared.WriteSlot.{WriteSlot}
 use Rattle.floor.specs.declared.Row.{Row}
 use Rattle.floor.specs.declared.Floor.{Floor}
+use Rattle.floor.specs.declared.Parts.{Parts}
+use Rattle.floor.specs.declared.Changed.{Changed}
 use Rattle.floor.specs.declared.Stepped.{Stepped}
 use Rattle.floor.specs.declared.NewFloor.{NewFloor}
 use Rattle.floor.specs.declared.Command.{Command}
+use Rattle.floor.specs.declared.Command.the-variants.{Begin, ServeRead, ServeWrite, DeliverRead, DeliverWrite, Stop, Leave, Malformed}
 use Rattle.floor.proofs.SoundLaws.{Sizes, sizes-mean}
 use Rattle.floor.proofs.Standings.{clash}
 use Rattle.floor.proofs.Stores.{set-all, set-in, set-at}
 use Rattle.floor.proofs.Forms.{afterBegin}
+use Rattle.floor.proofs.StepLaws.{apply-accepted}
 use Rattle.floor.proofs.View.{StepView, turned, began, read-served, write-served, read-heard, issued, write-heard, decided, aborted, stopped, left, apply-view}
 
 -- "Floor, record and reply stay unchanged": a refused step hands back the very floor
@@ -46,23 +52,28 @@ same (left z d) e = clash e refl
 pub refused-same : (f : Floor) (c : Command) → isRefused (applyOf f c .outcome) ≡ true → applyOf f c .floor ≡ f
 refused-same f c = same (apply-view f c)
 
+pub step-refused-same : (f : Floor) (r : List ℕ) → isRefused (stepOf f r .outcome) ≡ true → stepOf f r .floor ≡ f
+unfolding stepOf
+step-refused-same f r = refused-same f (commandOf r)
+
 -- the numbers of boxes and stations never change
 pub record SameSizes (f g : Floor) : Type 0 where
   pub boxes : g .n ≡ f .n
   pub stations : g .m ≡ f .m
 
-sizes-kept : {f : Floor} {c : Command} {s : Stepped} → StepView f c s → SameSizes f (s .floor)
-sizes-kept (turned k t) = record { boxes = refl; stations = refl }
-sizes-kept (began z d) = record { boxes = refl; stations = refl }
-sizes-kept (read-served z d) = record { boxes = refl; stations = refl }
-sizes-kept (write-served z d) = record { boxes = refl; stations = refl }
-sizes-kept (read-heard z d q) = record { boxes = refl; stations = refl }
-sizes-kept (issued z d r q) = record { boxes = refl; stations = refl }
-sizes-kept (write-heard z d q) = record { boxes = refl; stations = refl }
-sizes-kept (decided z d r q t) = record { boxes = refl; stations = refl }
-sizes-kept (aborted z d r q t) = record { boxes = refl; stations = refl }
-sizes-kept (stopped z d) = record { boxes = refl; stations = refl }
-sizes-kept (left z d) = record { boxes = refl; stations = refl }
+pub apply-sizes : (f : Floor) (c : Command) → SameSizes f (applyOf f c .floor)
+unfolding applyOf playOf
+apply-sizes f c =
+    by-test P _ _ _
+    (λ _. by-test P _ _ _ (λ _. record { boxes = refl; stations = refl }) (λ _. record { boxes = refl; stations = refl }))
+    (λ _. record { boxes = refl; stations = refl })
+  where
+    P : Stepped → Type 0
+    P s = SameSizes f (s .floor)
+
+pub step-sizes : (f : Floor) (r : List ℕ) → SameSizes f (stepOf f r .floor)
+unfolding stepOf
+step-sizes f r = apply-sizes f (commandOf r)
 
 -- a floor whose rows in use are those of a sound one, or belong to the same stations
 sound-on : (f g : Floor) → g .n ≡ f .n → g .m ≡ f .m → g .used ≡ f .used → ((a : ℕ) → rowAt g a .station ≡ rowAt f a .station) → Sound f → Sound g
@@ -113,3 +124,108 @@ apply-keeps f c = keeps (apply-view f c)
 pub step-keeps : (f : Floor) (r : List ℕ) → Sound f → Sound (stepOf f r .floor)
 unfolding stepOf
 step-keeps f r = apply-keeps f (commandOf r)
+
+-- a step accepted on a sound floor: the floor that its effect is stored into is sound, and what it says is no refusal
+pub put-keeps : (f : Floor) (c : Command) → Sound f → refusalIn (look f c) c ≡ 0 → Sound (put f c (effectIn (look f c) c .parts))
+put-keeps f c z e = subst (λ (s : Stepped). Sound (s .floor)) (apply-accepted f c z e) (apply-keeps f c z)
+
+abbrev Said : Changed → Type 0
+Said y = isRefused (y .outcome) ≡ false
+
+pub effect-said : (p : Parts) (c : Command) → refusalIn p c ≡ 0 → isRefused (effectIn p c .outcome) ≡ false
+unfolding begun servedRead servedWrite deliveredRead deliveredWrite
+effect-said p (Begin s round v) e = refl
+effect-said p (ServeRead a b) e = refl
+effect-said p (ServeWrite a b) e = refl
+effect-said p (DeliverRead a b) e = by-test Said _ _ _ (λ _. by-test Said _ _ _ (λ _. refl) (λ _. refl)) (λ _. refl)
+effect-said p (DeliverWrite a b) e = by-test Said _ _ _ (λ _. by-test Said _ _ _ (λ _. by-test Said _ _ _ (λ _. refl) (λ _. refl)) (λ _. refl)) (λ _. refl)
+effect-said p (Stop b) e = refl
+effect-said p (Leave s) e = refl
+effect-said p Malformed e = absurd (omega (arith, e))
+
+-- The arrays have their lengths: those of the types, which no step changes.
+pub record Lengths (f : Floor) : Type 0 where
+  pub boxes : length (f .boxes) ≡ 9
+  pub stations : length (f .stations) ≡ 16
+  pub rows : length (f .rows) ≡ 64
+  pub reads : (a : ℕ) → a < 64 → length (rowAt f a .reads) ≡ 9
+  pub writes : (a : ℕ) → a < 64 → length (rowAt f a .writes) ≡ 9
+
+pub reads-length : (k : ℕ) → length (readsWaiting k) ≡ 9
+unfolding readsWaiting
+reads-length zero = refl
+reads-length (suc k) = length-set (readsWaiting k) k _ ∙ reads-length k
+
+pub writes-length : (l : List WriteSlot) (k : ℕ) → length (writesWaiting l k) ≡ length l
+unfolding writesWaiting
+writes-length l zero = refl
+writes-length l (suc k) = length-set (writesWaiting l k) k _ ∙ writes-length l k
+
+-- a row stored whose own arrays have their lengths; boxes and stations of the same lengths
+lengths-on : (f g : Floor) (a : ℕ) (w : Row) → Lengths f → length (g .boxes) ≡ length (f .boxes) → length (g .stations) ≡ length (f .stations) → g .rows ≡ set (f .rows) a w
+    → (a < 64 → length (w .reads) ≡ 9) → (a < 64 → length (w .writes) ≡ 9) → Lengths g
+lengths-on f g a w y lb ls e r t = record {
+  boxes = lb ∙ y .boxes;
+  stations = ls ∙ y .stations;
+  rows = ap length e ∙ length-set (f .rows) a w ∙ y .rows;
+  reads = λ j h. rw e (set-all row0 (λ (i : ℕ) (x : Row). i < 64 → length (x .reads) ≡ 9) (f .rows) a w (y .reads) r j h);
+  writes = λ j h. rw e (set-all row0 (λ (i : ℕ) (x : Row). i < 64 → length (x .writes) ≡ 9) (f .rows) a w (y .writes) t j h);
+}
+
+lengths : {f : Floor} {c : Command} {s : Stepped} → StepView f c s → Lengths f → Lengths (s .floor)
+unfolding rows.issued newRow
+lengths (turned k t) y = y
+lengths {f} (began {s = s} z d) y = lengths-on f _ (f .used) _ y refl (length-set (f .stations) s _) refl (λ _. reads-length (f .n)) (λ _. refl)
+lengths {f} (read-served {a = a} {b = b} z d) y =
+    lengths-on f _ a _ y (length-set (f .boxes) b _) refl refl (λ h. length-set (rowAt f a .reads) b _ ∙ y .reads a h) (y .writes a)
+lengths {f} (write-served {a = a} {b = b} z d) y =
+    lengths-on f _ a _ y (length-set (f .boxes) b _) refl refl (y .reads a) (λ h. length-set (rowAt f a .writes) b _ ∙ y .writes a h)
+lengths {f} (read-heard {a = a} z d q) y = lengths-on f _ a _ y refl refl refl (y .reads a) (y .writes a)
+lengths {f} (issued {a = a} z d r q) y =
+    lengths-on f _ a _ y refl (length-set (f .stations) (rowAt f a .station) _) refl (y .reads a) (λ h. writes-length (rowAt f a .writes) (f .n) ∙ y .writes a h)
+lengths {f} (write-heard {a = a} z d q) y = lengths-on f _ a _ y refl refl refl (y .reads a) (y .writes a)
+lengths {f} (decided {a = a} z d r q t) y = lengths-on f _ a _ y refl (length-set (f .stations) (rowAt f a .station) _) refl (y .reads a) (y .writes a)
+lengths {f} (aborted {a = a} z d r q t) y = lengths-on f _ a _ y refl (length-set (f .stations) (rowAt f a .station) _) refl (y .reads a) (y .writes a)
+lengths {f} (stopped {b = b} z d) y =
+    record { boxes = length-set (f .boxes) b _ ∙ y .boxes; stations = y .stations; rows = y .rows; reads = y .reads; writes = y .writes }
+lengths {f} (left {s = s} z d) y =
+    record { boxes = y .boxes; stations = length-set (f .stations) s _ ∙ y .stations; rows = y .rows; reads = y .reads; writes = y .writes }
+
+pub apply-lengths : (f : Floor) (c : Command) → Lengths f → Lengths (applyOf f c .floor)
+apply-lengths f c = lengths (apply-view f c)
+
+pub step-lengths : (f : Floor) (r : List ℕ) → Lengths f → Lengths (stepOf f r .floor)
+unfolding stepOf
+step-lengths f r = apply-lengths f (commandOf r)
+
+-- a new floor is sound and has its lengths
+pub empty-sound : (n m : ℕ) → Sizes n m → Sound (emptyFloor n m)
+empty-sound n m z = record {
+  box-least = z .box-least;
+  box-most = z .box-most;
+  station-least = z .station-least;
+  station-most = z .station-most;
+  rows-most = omega arith;
+  stations = λ a h. absurd (omega arith);
+}
+
+pub empty-lengths : (n m : ℕ) → Lengths (emptyFloor n m)
+empty-lengths n m = record {
+  boxes = refl;
+  stations = refl;
+  rows = refl;
+  reads = λ a h. ap (λ (w : Row). length (w .reads)) (getD-replicate 64 a unusedRow row0 h);
+  writes = λ a h. ap (λ (w : Row). length (w .writes)) (getD-replicate 64 a unusedRow row0 h);
+}
+
+one-each : Sizes 1 1
+one-each = record { box-least = omega arith; box-most = omega arith; station-least = omega arith; station-most = omega arith }
+
+pub new-sound : (n m : ℕ) → Sound (newFloorOf n m .floor)
+unfolding newFloorOf
+new-sound n m =
+    by-test (λ (x : NewFloor). Sound (x .floor)) (sizesRight n m) _ _ (λ e. empty-sound n m (sizes-mean n m e)) (λ _. empty-sound 1 1 one-each)
+
+pub new-lengths : (n m : ℕ) → Lengths (newFloorOf n m .floor)
+unfolding newFloorOf
+new-lengths n m = by-test (λ (x : NewFloor). Lengths (x .floor)) (sizesRight n m) _ _ (λ _. empty-lengths n m) (λ _. empty-lengths 1 1)
