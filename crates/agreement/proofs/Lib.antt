@@ -4,3 +4,6 @@ pub mod Deliveries
 pub mod Issues
 pub mod Decisions
 pub mod Begins
+pub mod Reach
+pub mod Positions
+pub mod Safety

@@ -1,0 +1,154 @@
+-- The run by positions: the history before each, the attempt that a row in use belongs to, and what each decision and abort tells.
+use Prim.Native.Nat.{ℕ, zero, suc, _+_, _≤_, _<_}
+use native.Mathlib.Nat.{eq-or-lt-of-le}
+use native.Mathlib.Decide.{decLt}
+use native.Mathlib.Omega.{arith}
+use mathlib.Core.Path.{_≡_, refl, sym, ap, ap₂, subst, _∙_}
+use mathlib.Core.Logic.{_⊎_, inl, inr}
+use mathlib.Core.List.{List, [], _∷_, List·Memᴰ, List·Memᴰ·tail, List·Memᴰ·cases-cons, List·Memᴰ·not-nil}
+use lib.ListN.{getD}
+use lib.Seq.{getD-set-same}
+use Rattle.base.specs.Numbers.{rankOf}
+use Rattle.floor.specs.State.{row0, rowAt}
+use Rattle.floor.specs.Rows.{newRow}
+use Rattle.floor.specs.Step.{applyOf, stepOf}
+use Rattle.floor.specs.declared.Row.{Row}
+use Rattle.floor.specs.declared.Floor.{Floor}
+use Rattle.floor.specs.declared.Stepped.{Stepped}
+use Rattle.floor.specs.declared.Command.{Command}
+use Rattle.floor.specs.declared.Command.the-variants.{Begin}
+use Rattle.floor.specs.declared.Outcome.{Outcome}
+use Rattle.floor.specs.declared.Outcome.the-variants as said
+use Rattle.floor.proofs.Forms.{afterBegin}
+use Rattle.floor.proofs.View.{StepView, turned, began, read-served, write-served, read-heard, issued, write-heard, decided, aborted, stopped, left, step-view}
+use Rattle.floor.proofs.Keeps.{Lengths, step-lengths, step-sizes}
+use Rattle.floor.proofs.RowLaws.{SameAttempt, apply-begun, row-same}
+use Rattle.agreement.specs.Words.{Before, commandAt, floorAt, saidAt, Attempt, attemptRank, Named}
+use Rattle.agreement.proofs.History.{Happening, History}
+use Rattle.agreement.proofs.Reach.{eventOf, Reached, reached-next, Cause, cause, Told, told, New, new-reached}
+
+-- a number below suc k is k or below k
+pub up-to : {c k : ℕ} → c < suc k → (c ≡ k) ⊎ (c < k)
+up-to h = eq-or-lt-of-le (omega arith)
+
+-- the begin that put the row w into use
+record BeginsRow (c : Command) (o : Outcome) (a : ℕ) (w : Row) : Type 0 where
+  pub station : ℕ
+  pub round : ℕ
+  pub offer : ℕ
+  pub asked : c ≡ Begin station round offer
+  pub accepted : o ≡ said.Begun a
+  pub owner : w .station ≡ station
+  pub rank : w .rank ≡ rankOf round station
+
+begins-row : {f : Floor} {c : Command} {s : Stepped} → Lengths f → StepView f c s → (a : ℕ) → ¬ (a < f .used) → a < s .floor .used → BeginsRow c (s .outcome) a (rowAt (s .floor) a)
+unfolding newRow
+begins-row y (turned k t) a h u = absurd (h u)
+begins-row {f} y (began {s = s} {round = r} {v = v} z d) a h u =
+    let e : a ≡ f .used = omega arith in
+    let q = ap (λ (i : ℕ). rowAt (afterBegin f s r v) i) e ∙ getD-set-same (f .rows) (f .used) (newRow (f .n) s r v) row0 (omega (arith, y .rows, d .row)) in
+    record { station = s; round = r; offer = v; asked = refl; accepted = ap said.Begun (sym e); owner = ap (λ (w : Row). w .station) q; rank = ap (λ (w : Row). w .rank) q }
+begins-row y (read-served z d) a h u = absurd (h u)
+begins-row y (write-served z d) a h u = absurd (h u)
+begins-row y (read-heard z d q) a h u = absurd (h u)
+begins-row y (issued z d r q) a h u = absurd (h u)
+begins-row y (write-heard z d q) a h u = absurd (h u)
+begins-row y (decided z d r q t) a h u = absurd (h u)
+begins-row y (aborted z d r q t) a h u = absurd (h u)
+begins-row y (stopped z d) a h u = absurd (h u)
+begins-row y (left z d) a h u = absurd (h u)
+
+module _ (f : Floor) (l : List (List ℕ)) where
+  view-at : (i : ℕ) → StepView (floorAt f l i) (commandAt l i) (stepOf (floorAt f l i) (getD l i []))
+  view-at i = step-view (floorAt f l i) (getD l i [])
+
+  eventAt : ℕ → Happening
+  eventAt i = eventOf (view-at i)
+
+  -- what happened before the step at i
+  pub history : ℕ → History
+  history zero = []
+  history (suc i) = eventAt i ∷ history i
+
+  happened : (e : Happening) (i : ℕ) → List·Memᴰ e (history i) → Before (λ k. e ≡ eventAt k) i
+  unfolding history
+  happened e zero m = absurd (List·Memᴰ·not-nil m)
+  happened e (suc i) m = elim (List·Memᴰ·cases-cons m) [
+    | inl q ↦ record { at = i; earlier = omega arith; holds = q }
+    | inr o ↦ (let x = happened e i o in record { at = x .at; earlier = omega (arith, x .earlier); holds = x .holds })
+  ]
+
+  -- what an event before i came of
+  pub caused : (e : Happening) (i : ℕ) → List·Memᴰ e (history i) → Before (λ k. Cause (floorAt f l k) (commandAt l k) (saidAt f l k) e) i
+  unfolding eventAt
+  caused e i m =
+      let x = happened e i m in
+      let k = x .at in
+      record { at = k; earlier = x .earlier; holds = subst (Cause (floorAt f l k) (commandAt l k) (saidAt f l k)) (sym (x .holds)) (cause (view-at k)) }
+
+  -- what happened before i happened before every later position
+  pub still-happened : {e : Happening} (i t : ℕ) → i ≤ t → List·Memᴰ e (history i) → List·Memᴰ e (history t)
+  unfolding history
+  still-happened {e} i zero h m = let q : i ≡ 0 = omega arith in subst (λ (k : ℕ). List·Memᴰ e (history k)) q m
+  still-happened {e} i (suc t) h m = elim (eq-or-lt-of-le h) [
+    | inl q ↦ subst (λ (k : ℕ). List·Memᴰ e (history k)) q m
+    | inr o ↦ List·Memᴰ·tail (still-happened i t (omega arith) m)
+  ]
+
+  -- the number of boxes stays
+  pub size-at : (i : ℕ) → floorAt f l i .n ≡ f .n
+  unfolding floorAt
+  size-at zero = refl
+  size-at (suc i) = step-sizes (floorAt f l i) (getD l i []) .boxes ∙ size-at i
+
+  named-more : {x : Attempt f l} {i : ℕ} → ¬ (saidAt f l i ≡ said.Begun (x .number)) → Named f l x i → Named f l x (suc i)
+  named-more {x} {i} d n = record {
+    earlier = omega (arith, n .earlier);
+    last = λ k h u e. elim (up-to u) [ inl q ↦ d (ap (saidAt f l) (sym q) ∙ e) | inr q ↦ n .last k h q e ];
+  }
+
+  -- the row a in use before i is that of an attempt
+  pub record RowOf (i a : ℕ) : Type 0 where
+    pub attempt : Attempt f l
+    pub number : attempt .number ≡ a
+    pub named : Named f l attempt i
+    pub station : attempt .station ≡ rowAt (floorAt f l i) a .station
+    pub rank : attemptRank f l attempt ≡ rowAt (floorAt f l i) a .rank
+
+  module _ (new : New f) where
+    pub reached-at : (i : ℕ) → Reached (floorAt f l i) (history i)
+    unfolding floorAt history eventAt
+    reached-at zero = new-reached new
+    reached-at (suc i) =
+        reached-next (reached-at i) (view-at i) (step-lengths (floorAt f l i) (getD l i []) (reached-at i .lengths)) (step-sizes (floorAt f l i) (getD l i []) .boxes)
+
+    -- what a step that said o told
+    pub told-at : (i : ℕ) (o : Outcome) → saidAt f l i ≡ o → Told (floorAt f l i) (history i) (commandAt l i) (floorAt f l (suc i)) o
+    unfolding floorAt
+    told-at i o e =
+        subst (Told (floorAt f l i) (history i) (commandAt l i) (stepOf (floorAt f l i) (getD l i []) .floor)) e (told (reached-at i .shows) (reached-at i .lengths) (view-at i))
+
+    pub row-at : (i a : ℕ) → a < floorAt f l i .used → RowOf i a
+    unfolding floorAt stepOf
+    row-at zero a h = absurd (omega (arith, new .unused))
+    row-at (suc i) a h = elim (decLt a (floorAt f l i .used)) [
+      | yes u ↦ (
+          let o = row-at i a u in
+          let k = row-same (floorAt f l i) (commandAt l i) a u in
+          record {
+            attempt = o .attempt;
+            number = o .number;
+            named = named-more (λ e. omega (arith, apply-begun (floorAt f l i) (commandAt l i) (o .attempt .number) e, o .number)) (o .named);
+            station = o .station ∙ sym (k .station);
+            rank = o .rank ∙ sym (k .rank);
+          })
+      | no u ↦ (
+          let b = begins-row (reached-at i .lengths) (view-at i) a u h in
+          record {
+            attempt = record { at = i; station = b .station; round = b .round; offer = b .offer; number = a; asked = b .asked; begun = b .accepted };
+            number = refl;
+            named = record { earlier = omega arith; last = λ k p q. absurd (omega arith) };
+            station = sym (b .owner);
+            rank = sym (b .rank);
+          })
+    ]

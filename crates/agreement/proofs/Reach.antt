@@ -1,0 +1,227 @@
+-- Every step, accepted or refused, leads from a floor that shows its history to one that shows it with what happened.
+use Prim.Native.Nat.{ℕ, _+_, _<_}
+use native.Mathlib.Omega.{arith}
+use mathlib.Core.Path.{_≡_, refl, sym, ap, subst}
+use mathlib.Core.Logic.{_⊎_, inl, inr}
+use mathlib.Core.Bool.{Bool, true, false}
+use mathlib.Core.List.{List, [], _∷_, List·Memᴰ, List·Memᴰ·not-nil}
+use lib.ListN.{length, getD, set}
+use lib.Seq.{getD-set-same}
+use Rattle.base.specs.Numbers.{rankOf, sizesRight}
+use Rattle.base.proofs.Choices.{by-test}
+use Rattle.register.specs.Register.{rmwWrite}
+use Rattle.register.specs.declared.StorageBox.{StorageBox}
+use Rattle.protocol.specs.View.{Chosen}
+use Rattle.protocol.specs.Invariant.{Inv}
+use Rattle.protocol.specs.Trace.{read, issued, took, refused, note, Step, other-event, Run, new, next}
+use Rattle.protocol.proofs.Runs.{run-inv}
+use Rattle.protocol.proofs.Instances.{equality}
+use Rattle.floor.specs.State.{box0, station0, row0, boxAt, stationAt, rowAt}
+use Rattle.floor.specs.Sound.{Sound}
+use Rattle.floor.specs.Floors.{emptyFloor, newFloorOf}
+use Rattle.floor.specs.Rows.{newRow, revisionOf}
+use Rattle.floor.specs.Effects.{withState}
+use Rattle.floor.specs.declared.Phase.the-variants as phase
+use Rattle.floor.specs.declared.Station.{Station}
+use Rattle.floor.specs.declared.Row.{Row}
+use Rattle.floor.specs.declared.Floor.{Floor}
+use Rattle.floor.specs.declared.NewFloor.{NewFloor}
+use Rattle.floor.specs.declared.Stepped.{Stepped}
+use Rattle.floor.specs.declared.Command.{Command}
+use Rattle.floor.specs.declared.Command.the-variants.{Begin, ServeRead, ServeWrite, DeliverWrite}
+use Rattle.floor.specs.declared.Outcome.{Outcome}
+use Rattle.floor.specs.declared.Outcome.the-variants as said
+use Rattle.floor.proofs.Forms.{readHeard, decider, afterStop, afterLeave}
+use Rattle.floor.proofs.View.{CanStop, CanLeave, StepView, turned, began, read-served, write-served, read-heard, issued, write-heard, decided, aborted, stopped, left}
+use Rattle.floor.proofs.View as view
+use Rattle.floor.proofs.Keeps.{Lengths, empty-lengths}
+use Rattle.floor.proofs.Stores.{set-all, getD-same}
+use Rattle.agreement.proofs.History.{offered, quiet, Happening, History, Offered, offered-stays, toBox, boxesOf, Paired, Seat, seats-stored, last-stored, Shows, rows-kept}
+use Rattle.agreement.proofs.Serves.{Goes, readEvent, wroteEvent, writeEvent, serve-read-goes, serve-write-goes}
+use Rattle.agreement.proofs.Deliveries.{viewOf, owner-writes}
+use Rattle.agreement.proofs.Issues.{read-heard-goes, issue-goes}
+use Rattle.agreement.proofs.Decisions.{write-heard-goes, decision-goes, decision-chosen, abort-goes, abort-refused}
+use Rattle.agreement.proofs.Begins.{begin-goes}
+
+-- what happens at a step
+abbrev pub eventOf : {f : Floor} {c : Command} {s : Stepped} → StepView f c s → Happening
+eventOf (turned k t) = note quiet
+eventOf (began {v = v} z d) = note (offered v)
+eventOf {f} (read-served {a = a} {b = b} z d) = readEvent f a b
+eventOf {f} (write-served {a = a} {b = b} z d) = writeEvent f a b
+eventOf (read-heard z d q) = note quiet
+eventOf {f} (view.issued {a = a} {b = b} z d r q) = issued (rowAt f a .rank) (revisionOf (readHeard f a b) (f .n))
+eventOf (write-heard z d q) = note quiet
+eventOf (decided z d r q t) = note quiet
+eventOf (aborted z d r q t) = note quiet
+eventOf (stopped z d) = note quiet
+eventOf (left z d) = note quiet
+
+-- A floor that steps led to, with its history.
+pub record Reached (f : Floor) (l : History) : Type 0 where
+  pub lengths : Lengths f
+  pub run : Run (f .n) _≡_ Offered (boxesOf f) l
+  pub shows : Shows f l
+
+pub reached-inv : {f : Floor} {l : History} → Reached f l → Inv (f .n) _≡_ (viewOf f l)
+reached-inv {f} k = run-inv (f .n) _≡_ Offered (equality .transitive) offered-stays (k .run)
+
+-- the rows stay, and nothing is noted
+module _ {f : Floor} {l : History} (s : Shows f l) where
+  refused-goes : Goes f l f (note quiet)
+  refused-goes = record { step = other-event (λ j. refl); shows = rows-kept s (note quiet) (f .boxes) (f .stations) (s .paired) (λ j. refl) refl (s .seats) }
+
+  stop-goes : (b : ℕ) → Goes f l (afterStop f b) (note quiet)
+  stop-goes b = record {
+    step = other-event (set-all box0 (λ (j : ℕ) (x : StorageBox). toBox x ≡ boxesOf f j) (f .boxes) b _ (λ j. refl) refl);
+    shows = rows-kept s (note quiet) _ (f .stations)
+        (set-all box0 (λ (j : ℕ) (x : StorageBox). Paired (x .register .write) (x .register .value)) (f .boxes) b _ (s .paired) (s .paired b)) (λ j. refl) refl (s .seats);
+  }
+
+  leave-goes : Lengths f → Sound f → (j : ℕ) → CanLeave f j → Goes f l (afterLeave f j) (note quiet)
+  leave-goes y z j d = record {
+    step = other-event (λ i. refl);
+    shows = rows-kept s (note quiet) (f .boxes) _ (s .paired) (last-stored (f .stations) j (withState (stationAt f j) phase.Gone) refl) refl
+        (seats-stored (f .used) (f .rows) (f .stations) j (withState (stationAt f j) phase.Gone) (omega (arith, y .stations, d .station, z .station-most))
+        (λ i p. s .seats i) tt);
+  }
+
+goes : {f : Floor} {l : History} {c : Command} {s : Stepped} → Shows f l → Lengths f → (x : StepView f c s) → Goes f l (s .floor) (eventOf x)
+goes w y (turned k t) = refused-goes w
+goes w y (began {s = s} {round = r} {v = v} z d) = begin-goes w y z s r v d
+goes w y (read-served {a = a} {b = b} z d) = serve-read-goes w y z a b d
+goes w y (write-served {a = a} {b = b} z d) = serve-write-goes w y z a b d
+goes w y (read-heard {a = a} {b = b} z d q) = read-heard-goes w y z a b d
+goes w y (view.issued {a = a} {b = b} z d r q) = issue-goes w y z a b d r q
+goes w y (write-heard {a = a} {b = b} z d q) = write-heard-goes w y z a b d
+goes w y (decided {a = a} {b = b} z d r q t) = decision-goes w y z a b d r
+goes w y (aborted {a = a} {b = b} z d r q t) = abort-goes w y z a b d
+goes w y (stopped {b = b} z d) = stop-goes w b
+goes w y (left {s = s} z d) = leave-goes w y z s d
+
+pub reached-next : {f : Floor} {l : History} {c : Command} {s : Stepped} → Reached f l → (x : StepView f c s) → Lengths (s .floor) → s .floor .n ≡ f .n → Reached (s .floor) (eventOf x ∷ l)
+reached-next {l = l} {s = s} k x y n = let g = goes (k .shows) (k .lengths) x in record {
+  lengths = y;
+  run = subst (λ (i : ℕ). Run i _≡_ Offered (boxesOf (s .floor)) (eventOf x ∷ l)) (sym n) (next (k .run) (g .step));
+  shows = g .shows;
+}
+
+-- What an event came of: a rank was served by a serve of its attempt, a revision was offered by a begin.
+pub record Serving (f : Floor) (c : Command) (o : Outcome) (r b : ℕ) : Type 0 where
+  pub attempt : ℕ
+  pub used : attempt < f .used
+  pub rank : rowAt f attempt .rank ≡ r
+  pub asked : (c ≡ ServeRead attempt b) ⊎ (c ≡ ServeWrite attempt b)
+  pub accepted : o ≡ said.Served attempt
+
+pub record Offering (c : Command) (o : Outcome) (v : ℕ) : Type 0 where
+  pub station : ℕ
+  pub round : ℕ
+  pub number : ℕ
+  pub asked : c ≡ Begin station round v
+  pub accepted : o ≡ said.Begun number
+
+abbrev pub Cause : Floor → Command → Outcome → Happening → Type 0
+Cause f c o (read r b w v) = Serving f c o r b
+Cause f c o (issued r v) = Unit {0}
+Cause f c o (took r b) = Serving f c o r b
+Cause f c o (refused r b) = Unit {0}
+Cause f c o (note (offered v)) = Offering c o v
+Cause f c o (note quiet) = Unit {0}
+
+write-cause : (f : Floor) (a b : ℕ) → a < f .used → (t : Bool) → Cause f (ServeWrite a b) (said.Served a) (wroteEvent t (rowAt f a .rank) b)
+write-cause f a b h true = record { attempt = a; used = h; rank = refl; asked = inr refl; accepted = refl }
+write-cause f a b h false = tt
+
+pub cause : {f : Floor} {c : Command} {s : Stepped} → (x : StepView f c s) → Cause f c (s .outcome) (eventOf x)
+cause (turned k t) = tt
+cause (began {s = s} {round = r} {v = v} z d) = record { station = s; round = r; number = _; asked = refl; accepted = refl }
+cause (read-served {a = a} {b = b} z d) = record { attempt = a; used = d .used; rank = refl; asked = inl refl; accepted = refl }
+cause {f} (write-served {a = a} {b = b} z d) = write-cause f a b (d .used) (rmwWrite (boxAt f b .register) (rowAt f a .rank) (rowAt f a .written) .taken)
+cause (read-heard z d q) = tt
+cause (view.issued z d r q) = tt
+cause (write-heard z d q) = tt
+cause (decided z d r q t) = tt
+cause (aborted z d r q t) = tt
+cause (stopped z d) = tt
+cause (left z d) = tt
+
+-- What a step that decides or aborts tells of the floor f before it, with its history l, and of the floor g after it.
+pub record Deciding (f : Floor) (l : History) (c : Command) (g : Floor) (v : ℕ) : Type 0 where
+  pub attempt : ℕ
+  pub box : ℕ
+  pub asked : c ≡ DeliverWrite attempt box
+  pub used : attempt < f .used
+  pub positive : 0 < v
+  pub chosen : Chosen (f .n) (viewOf f l) (rowAt f attempt .rank) v
+  pub shown : stationAt g (rowAt f attempt .station) .decided ≡ v
+
+pub record Aborting (f : Floor) (l : History) (c : Command) (a : ℕ) : Type 0 where
+  pub box : ℕ
+  pub asked : c ≡ DeliverWrite a box
+  pub used : a < f .used
+  pub place : ℕ
+  pub refusal : List·Memᴰ (refused (rowAt f a .rank) place) l
+  pub untaken : ¬ List·Memᴰ (took (rowAt f a .rank) place) l
+
+abbrev pub Told : Floor → History → Command → Floor → Outcome → Type 0
+Told f l c g (said.Begun a) = Unit {0}
+Told f l c g (said.Served a) = Unit {0}
+Told f l c g (said.Received a) = Unit {0}
+Told f l c g (said.Aborted a) = Aborting f l c a
+Told f l c g (said.WriteIssued v) = Unit {0}
+Told f l c g (said.Decided v) = Deciding f l c g v
+Told f l c g (said.Stopped b) = Unit {0}
+Told f l c g (said.Gone s) = Unit {0}
+Told f l c g (said.Refused k) = Unit {0}
+
+pub told : {f : Floor} {l : History} {c : Command} {s : Stepped} → Shows f l → Lengths f → StepView f c s → Told f l c (s .floor) (s .outcome)
+told w y (turned k t) = tt
+told w y (began z d) = tt
+told w y (read-served z d) = tt
+told w y (write-served z d) = tt
+told w y (read-heard z d q) = tt
+told w y (view.issued z d r q) = tt
+told w y (write-heard z d q) = tt
+told {f} w y (decided {a = a} {b = b} z d r q t) = record {
+  attempt = a;
+  box = b;
+  asked = refl;
+  used = d .used;
+  positive = owner-writes w y z a (d .used) r;
+  chosen = decision-chosen w y z a b d r q t;
+  shown = ap (λ (x : Station). x .decided) (getD-set-same (f .stations) (rowAt f a .station) _ station0 (omega (arith, y .stations, z .stations a (d .used), z .station-most)));
+}
+told w y (aborted {a = a} {b = b} z d r q t) =
+    let m = abort-refused w y z a b d t in
+    record { box = b; asked = refl; used = d .used; place = m .0; refusal = m .1; untaken = m .2 }
+told w y (stopped z d) = tt
+told w y (left z d) = tt
+
+-- A new floor: nothing has happened on it.
+pub record New (f : Floor) : Type 0 where
+  pub lengths : Lengths f
+  pub unused : f .used ≡ 0
+  pub boxes : (b : ℕ) → boxAt f b ≡ box0
+  pub stations : (j : ℕ) → stationAt f j ≡ station0
+
+pub new-floor : (n m : ℕ) → New (newFloorOf n m .floor)
+unfolding newFloorOf
+new-floor n m = by-test (λ (x : NewFloor). New (x .floor)) (sizesRight n m) _ _ (λ _. empty n m) (λ _. empty 1 1)
+  where
+    empty : (n m : ℕ) → New (emptyFloor n m)
+    empty n m = record { lengths = empty-lengths n m; unused = refl; boxes = λ b. getD-same 9 b box0; stations = λ j. getD-same 16 j station0 }
+
+pub new-reached : {f : Floor} → New f → Reached f []
+new-reached {f} x = record {
+  lengths = x .lengths;
+  run = new (λ b. ap (λ (c : StorageBox). c .register .read) (x .boxes b)) (λ b. ap (λ (c : StorageBox). c .register .write) (x .boxes b));
+  shows = record {
+    paired = λ b. rw (x .boxes b) (λ e. refl, λ h. h);
+    rows = λ a h. absurd (omega (arith, x .unused));
+    distinct = λ a c h. absurd (omega (arith, x .unused));
+    begun = λ a h. absurd (omega (arith, x .unused));
+    unbegun = λ r h e m. absurd (List·Memᴰ·not-nil m);
+    seats = λ j. rw (x .stations j) tt;
+  };
+}
