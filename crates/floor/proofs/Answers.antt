@@ -8,7 +8,7 @@ use mathlib.Core.Bool.{Bool, true, false}
 use mathlib.Core.List.{List}
 use lib.Dec.{ltb}
 use lib.ListN.{getD}
-use borrow.Author.Tests.{ltb-true, ltb-false, eqb-true, eqb-false, eq-eqb, ne-eqb}
+use borrow.Author.Tests.{ltb-true, ltb-false, eqb-true, eq-eqb, ne-eqb}
 use Rattle.base.specs.Choice.{if_then_else_}
 use Rattle.base.specs.Numbers.{quorum}
 use Rattle.base.proofs.Choices.{on-true, on-false, by-test, both-true}
@@ -16,11 +16,10 @@ use Rattle.protocol.specs.Mask.{bit, countBelow}
 use Rattle.protocol.specs.Quorum.{Majority}
 use Rattle.protocol.proofs.MaskLaws.{bit-zero, count-agree, count-zero, mask-majority}
 use Rattle.floor.specs.State.{readSlot0, writeSlot0, atQuorum}
-use Rattle.floor.specs.Rows.{noBest, bestFrom, better, bestOf, revisionFrom, revisionOf, stillTaken, allTaken}
+use Rattle.floor.specs.Rows.{noBest, bestFrom, better, bestOf, revisionFrom, stillTaken, allTaken}
 use Rattle.floor.specs.declared.rows.Best.{Best}
 use Rattle.floor.specs.declared.ReadSlot.{ReadSlot}
 use Rattle.floor.specs.declared.WriteSlot.{WriteSlot}
-use Rattle.floor.specs.declared.Row.{Row}
 use Rattle.floor.proofs.Standings.{clash}
 
 -- The q-th answer.

@@ -1,17 +1,19 @@
--- Which command each thing said came of.
-use Prim.Native.Nat.{ℕ}
-use mathlib.Core.Path.{_≡_, refl}
+-- What a step says: which command each thing said came of, and document 01's number for it.
+use Prim.Native.Nat.{ℕ, _≤_}
+use native.Mathlib.Omega.{arith}
+use mathlib.Core.Path.{_≡_, refl, ap}
 use mathlib.Core.Logic.{_⊎_, inl, inr}
+use mathlib.Core.Bool.{true}
 use mathlib.Core.List.{List}
 use Rattle.floor.specs.Commands.{commandOf, attemptIn}
-use Rattle.floor.specs.Step.{applyOf, stepOf}
+use Rattle.floor.specs.Step.{numberOf, isRefused, applyOf, stepOf}
 use Rattle.floor.specs.declared.Floor.{Floor}
 use Rattle.floor.specs.declared.Stepped.{Stepped}
 use Rattle.floor.specs.declared.Outcome.{Outcome}
 use Rattle.floor.specs.declared.Outcome.the-variants.{Begun, Served, Received, Aborted, WriteIssued, Decided, Stopped, Gone, Refused}
 use Rattle.floor.specs.declared.Command.{Command}
 use Rattle.floor.specs.declared.Command.the-variants.{Begin, ServeRead, ServeWrite, DeliverRead, DeliverWrite, Stop, Leave}
-use Rattle.floor.proofs.View.{StepView, turned, began, read-served, write-served, read-heard, issued, write-heard, decided, aborted, stopped, left, apply-view}
+use Rattle.floor.proofs.View.{StepView, turned, began, read-served, write-served, read-heard, issued, write-heard, decided, aborted, stopped, left, apply-view, apply-refusal}
 
 -- c is a begin
 pub record IsBegin (c : Command) : Type 0 where
@@ -55,3 +57,10 @@ apply-says f c = says (apply-view f c)
 pub step-says : (f : Floor) (r : List ℕ) → SaidBy (commandOf r) (stepOf f r .outcome)
 unfolding stepOf
 step-says f r = apply-says f (commandOf r)
+
+-- a refused step has a number from 6 to 14
+pub refused-number : (f : Floor) (c : Command) → isRefused (applyOf f c .outcome) ≡ true → (6 ≤ numberOf (applyOf f c .outcome)) × (numberOf (applyOf f c .outcome) ≤ 14)
+refused-number f c e =
+    let r = apply-refusal f c e in
+    let n : numberOf (applyOf f c .outcome) ≡ r .number = ap (λ (s : Stepped). numberOf (s .outcome)) (r .is) in
+    (omega (arith, n, r .cause .least), omega (arith, n, r .cause .most))

@@ -3,7 +3,7 @@ ghost use mathlib.Core.Path.{_≡_};
 ghost use lib.ListN.{length, drop};
 ghost use Prim.Native.Nat.{_+_, _<_, _≤_};
 ghost use Rattle.floor.specs.Commands.{word16, word32, allZero, requestOf, departureOf, commandOf, encodeOf, placeIn, attemptIn, boxIn, stationIn};
-ghost use Rattle.floor.specs.Runs.{recordAt};
+ghost use Rattle.base.specs.Records.{recordAt};
 use crate::Command;
 
 fn be16(a: u8, b: u8) -> u16
@@ -87,7 +87,7 @@ pub fn command_at(s: &[u8], at: usize) -> Command
 
 // The record of a command; that of `Malformed` is zeros.
 pub fn encode(c: Command) -> [u8; 8]
-    ensures { λ r. ⌜ (r ≡ encodeOf c) × (commandOf r ≡ c) ⌝ }
+    ensures { λ r. ⌜ r ≡ encodeOf c ⌝ }
 {
     match c {
         Command::Begin(s, round, v) => [

@@ -8,7 +8,8 @@ ghost use Prim.Native.Nat.{_/_, _≤_};
 ghost use Rattle.floor.specs.Floors.{emptyFloor, newFloorOf};
 ghost use Rattle.floor.specs.Sound.{stationsBelow, soundOf};
 ghost use Rattle.floor.specs.Step.{applyOf, stepOf};
-ghost use Rattle.floor.specs.Runs.{recordsFrom, runOf};
+ghost use Rattle.base.specs.Records.{recordsFrom};
+ghost use Rattle.floor.specs.Runs.{runOf};
 use register::Register;
 use register::StorageBox;
 
