@@ -6,7 +6,6 @@ use mathlib.Core.Path.{_≡_, refl, sym, ap, subst, _∙_}
 use mathlib.Core.Bool.{true, false}
 use mathlib.Core.List.{List, _∷_, List·Memᴰ·head}
 use lib.ListN.{getD, set}
-use lib.Seq.{getD-set-same}
 use Rattle.base.specs.Numbers.{rankOf}
 use Rattle.protocol.specs.Trace.{took, note, Edit, there, other, other-event}
 use Rattle.protocol.proofs.MaskLaws.{bit-zero}
@@ -21,7 +20,7 @@ use Rattle.floor.specs.declared.Floor.{Floor}
 use Rattle.floor.proofs.Standings.{clash}
 use Rattle.floor.proofs.Forms.{beginner, afterBegin}
 use Rattle.floor.proofs.View.{CanBegin}
-use Rattle.floor.proofs.Keeps.{Lengths}
+use Rattle.floor.proofs.Keeps.{Lengths, row-stored, station-stored}
 use Rattle.floor.proofs.Stores.{set-all, set-in, edit-set, getD-same}
 use Rattle.agreement.proofs.History.{offered, Happening, History, Unwritten, unwritten-more, isAnswered, isIssued, Paired, RowShows, seat-stored, seats-stored, Shows, row-more}
 use Rattle.agreement.proofs.Serves.{Goes}
@@ -112,7 +111,7 @@ module _ {f : Floor} {l : History} (s : Shows f l) (y : Lengths f) (z : Sound f)
       set-all station0 (λ (j : ℕ) (x : Station). stationAt f j .last ≤ x .last) (f .stations) t (beginner f t round) (λ j. le-refl (stationAt f j .last)) (omega (arith, d .later))
 
   last-now : getD stations t station0 .last ≡ round
-  last-now = ap (λ (x : Station). x .last) (getD-set-same (f .stations) t (beginner f t round) station0 (omega (arith, y .stations, d .station, z .station-most)))
+  last-now = ap (λ (x : Station). x .last) (station-stored f y z t (beginner f t round) (d .station))
 
   pub begin-goes : Goes f l (afterBegin f t round v) event
   unfolding newRow
@@ -136,4 +135,4 @@ module _ {f : Floor} {l : History} (s : Shows f l) (y : Lengths f) (z : Sound f)
   }
     where
       stored : getD rows (f .used) row0 ≡ row
-      stored = getD-set-same (f .rows) (f .used) row row0 (omega (arith, y .rows, d .row))
+      stored = row-stored f y z (f .used) row (d .row)

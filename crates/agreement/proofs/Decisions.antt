@@ -23,35 +23,19 @@ use Rattle.agreement.proofs.History.{quiet, History, isAnswered, RowSho
 use Rattle.agreement.proofs.Serves.{Goes}
 use Rattle.agreement.proofs.Deliveries.{viewOf, write-heard-row, row-heard, owner-writes, row-moved}
 
-module _ {f : Floor} {l : History} (s : Shows f l) (y : Lengths f) (z : Sound f) (a b : ℕ) (d : CanDeliver f true a b) where
+module _ {f : Floor} {l : History} (s : Shows f l) (a b : ℕ) (d : CanDeliver f true a b) where
   abbrev w : Row
   w = writeHeard f a b
 
   shown : RowShows w l
   shown = write-heard-row (s .rows a (d .used)) b (ap isAnswered (arrives-means (writeAt (rowAt f a) b .stage) (rowAt f a .writers) b (d .arrives) .0))
 
-  pub write-heard-goes : Goes f l (withRow f a w) (note quiet)
-  write-heard-goes = row-heard s y z a (d .used) w refl refl refl shown
-
-  module _ (writes : isWriting (ownerAt f a .state) a ≡ true) where
-    pub decision-goes : Goes f l (afterDecision f a w) (note quiet)
-    decision-goes = record {
-      step = other-event (λ j. refl);
-      shows = row-moved s y z a (d .used) w refl (decider f a w) refl (note quiet) (λ r e. absurd (omega arith)) (row-more (note quiet) (λ e. omega arith) shown)
-          (owner-writes s y z a (d .used) writes);
-    }
-
-    -- a revision that is decided was chosen
-    pub decision-chosen : atQuorum (w .writers) (f .n) ≡ true → allTaken (w .writes) (w .writers) (f .n) ≡ true → Chosen (f .n) (viewOf f l) (rowAt f a .rank) (rowAt f a .written)
-    decision-chosen q t = record {
-      issued = shown .writes .issue (owner-writes s y z a (d .used) writes);
-      taken = quorum-majority (w .writers) (f .n) q (λ c h m. shown .writes .taken c (shown .writes .received c m) (taken-means (w .writes) (w .writers) (f .n) t c h m));
-    }
-
-  pub abort-goes : Goes f l (afterAbort f a w) (note quiet)
-  abort-goes = record {
-    step = other-event (λ j. refl);
-    shows = row-moved s y z a (d .used) w refl (withState (ownerAt f a) Idle) refl (note quiet) (λ r e. absurd (omega arith)) (row-more (note quiet) (λ e. omega arith) shown) tt;
+  -- a revision that is decided was chosen
+  pub decision-chosen : isWriting (ownerAt f a .state) a ≡ true → atQuorum (w .writers) (f .n) ≡ true → allTaken (w .writes) (w .writers) (f .n) ≡ true
+      → Chosen (f .n) (viewOf f l) (rowAt f a .rank) (rowAt f a .written)
+  decision-chosen r q t = record {
+    issued = shown .writes .issue (owner-writes s a (d .used) r);
+    taken = quorum-majority (w .writers) (f .n) q (λ c h m. shown .writes .taken c (shown .writes .received c m) (taken-means (w .writes) (w .writers) (f .n) t c h m));
   }
 
   -- a write that is aborted was refused at a box, and not taken there
@@ -59,3 +43,20 @@ module _ {f : Floor} {l : History} (s : Shows f l) (y : Lengths f) (z : Sound f)
   abort-refused t =
       let m = taken-not (w .writes) (w .writers) (f .n) t in
       (m .0, shown .writes .refusal (m .0) (shown .writes .received (m .0) (m .2)) (m .3), λ o. clash (shown .writes .only (m .0) o .1) (m .3))
+
+  module _ (y : Lengths f) (z : Sound f) where
+    pub write-heard-goes : Goes f l (withRow f a w) (note quiet)
+    write-heard-goes = row-heard s y z a (d .used) w refl refl refl shown
+
+    pub decision-goes : isWriting (ownerAt f a .state) a ≡ true → Goes f l (afterDecision f a w) (note quiet)
+    decision-goes r = record {
+      step = other-event (λ j. refl);
+      shows = row-moved s y z a (d .used) w refl (decider f a w) refl (note quiet) (λ k e. absurd (omega arith)) (row-more (note quiet) (λ e. omega arith) shown)
+          (owner-writes s a (d .used) r);
+    }
+
+    pub abort-goes : Goes f l (afterAbort f a w) (note quiet)
+    abort-goes = record {
+      step = other-event (λ j. refl);
+      shows = row-moved s y z a (d .used) w refl (withState (ownerAt f a) Idle) refl (note quiet) (λ k e. absurd (omega arith)) (row-more (note quiet) (λ e. omega arith) shown) tt;
+    }

@@ -178,9 +178,9 @@ module _ {f : Floor} {l : History} (s : Shows f l) (e : Happening) (bs : List St
     (paired : (b : ℕ) → Paired (getD bs b box0 .register .write) (getD bs b box0 .register .value))
     (last : (j : ℕ) → getD ss j station0 .last ≡ stationAt f j .last) where
   -- nothing is written, and the rows stay
-  pub rows-kept : writerOf e ≡ 0 → ((j : ℕ) → Seat (f .used) (f .rows) j (getD ss j station0 .decided) (getD ss j station0 .state))
+  pub shows-kept : writerOf e ≡ 0 → ((j : ℕ) → Seat (f .used) (f .rows) j (getD ss j station0 .decided) (getD ss j station0 .state))
       → Shows (record { n = f .n; m = f .m; used = f .used; boxes = bs; stations = ss; rows = f .rows }) (e ∷ l)
-  rows-kept silent seats = record {
+  shows-kept silent seats = record {
     paired = paired;
     rows = λ a h. row-more e (λ q. omega arith) (s .rows a h);
     distinct = s .distinct;
@@ -199,9 +199,9 @@ module _ {f : Floor} {l : History} (s : Shows f l) (e : Happening) (bs : List St
     not-unbegun : (r : ℕ) → stationAt f (r % 16) .last < r / 16 → ¬ (writerOf e ≡ suc r)
     not-unbegun r h q = omega (arith, subst (λ (k : ℕ). stationAt f (k % 16) .last < k / 16) (own r q) h, s .begun a ha)
 
-    pub row-stored : RowShows w (e ∷ l) → ((j : ℕ) → Seat (f .used) (set (f .rows) a w) j (getD ss j station0 .decided) (getD ss j station0 .state))
+    pub shows-stored : RowShows w (e ∷ l) → ((j : ℕ) → Seat (f .used) (set (f .rows) a w) j (getD ss j station0 .decided) (getD ss j station0 .state))
         → Shows (record { n = f .n; m = f .m; used = f .used; boxes = bs; stations = ss; rows = set (f .rows) a w }) (e ∷ l)
-    row-stored new seats = record {
+    shows-stored new seats = record {
       paired = paired;
       rows = set-in row0 (λ (k : ℕ) (x : Row). k < f .used → RowShows x (e ∷ l)) (f .rows) a w (omega (arith, y .rows))
           (λ k p h. row-more e (λ q. p (s .distinct k a h ha (own (rowAt f k .rank) q))) (s .rows k h)) (λ h. new);

@@ -7,7 +7,6 @@ use mathlib.Core.Logic.{inl, inr}
 use mathlib.Core.Bool.{true, false}
 use mathlib.Core.List.{List, _∷_, List·Memᴰ, List·Memᴰ·head, List·Memᴰ·tail, List·Memᴰ·cases-cons}
 use lib.ListN.{getD, set}
-use lib.Seq.{getD-set-same}
 use Rattle.protocol.specs.Mask.{bit}
 use Rattle.protocol.specs.View.{MayIssue}
 use Rattle.protocol.specs.Trace.{read, issued, took, note, issue}
@@ -27,7 +26,7 @@ use Rattle.floor.specs.declared.Floor.{Floor}
 use Rattle.floor.proofs.Standings.{clash, arrives-means}
 use Rattle.floor.proofs.Forms.{withRow, ownerAt, readHeard, afterIssue}
 use Rattle.floor.proofs.View.{CanDeliver}
-use Rattle.floor.proofs.Keeps.{Lengths}
+use Rattle.floor.proofs.Keeps.{Lengths, used-stored}
 use Rattle.floor.proofs.Stores.{set-all}
 use Rattle.floor.proofs.Answers.{quorum-majority, Found, nothing, highest, best-found, revision-offer, revision-value, revision-either}
 use Rattle.agreement.proofs.History.{quiet, History, isAnswered, isIssued, RowShows, Shows, reads-more}
@@ -99,7 +98,7 @@ module _ {f : Floor} {l : History} (s : Shows f l) (y : Lengths f) (z : Sound f)
     ]
 
     unwritten : w .written ≡ 0
-    unwritten = owner-reads s y z a (d .used) reads
+    unwritten = owner-reads s a (d .used) reads
 
     unanswered : (j : ℕ) → isAnswered (getD (writesWaiting (w .writes) (f .n)) j writeSlot0 .stage) ≡ false
     unanswered = waiting-unanswered (w .writes) (f .n) (λ j. unissued-unanswered (writeAt w j .stage) (λ e. omega (arith, shown .writes .after-issue j e, unwritten)))
@@ -127,7 +126,7 @@ module _ {f : Floor} {l : History} (s : Shows f l) (y : Lengths f) (z : Sound f)
     }
 
     stored : getD (set (f .rows) a (rows.issued w value (f .n))) a row0 ≡ rows.issued w value (f .n)
-    stored = getD-set-same (f .rows) a (rows.issued w value (f .n)) row0 (omega (arith, y .rows, d .used, z .rows-most))
+    stored = used-stored f y z a (rows.issued w value (f .n)) (d .used)
 
     pub issue-goes : Goes f l (afterIssue f a w value) (issued (w .rank) value)
     unfolding rows.issued

@@ -7,56 +7,40 @@ use mathlib.Core.Path.{_≡_, refl, sym, ap, ap₂, subst, _∙_}
 use mathlib.Core.Logic.{_⊎_, inl, inr}
 use mathlib.Core.List.{List, [], _∷_, List·Memᴰ, List·Memᴰ·tail, List·Memᴰ·cases-cons, List·Memᴰ·not-nil}
 use lib.ListN.{getD}
-use lib.Seq.{getD-set-same}
-use Rattle.base.specs.Numbers.{rankOf}
-use Rattle.floor.specs.State.{row0, rowAt}
+use Rattle.floor.specs.State.{rowAt}
 use Rattle.floor.specs.Rows.{newRow}
 use Rattle.floor.specs.Step.{applyOf, stepOf}
 use Rattle.floor.specs.declared.Row.{Row}
 use Rattle.floor.specs.declared.Floor.{Floor}
 use Rattle.floor.specs.declared.Stepped.{Stepped}
 use Rattle.floor.specs.declared.Command.{Command}
-use Rattle.floor.specs.declared.Command.the-variants.{Begin}
 use Rattle.floor.specs.declared.Outcome.{Outcome}
 use Rattle.floor.specs.declared.Outcome.the-variants as said
-use Rattle.floor.proofs.Forms.{afterBegin}
 use Rattle.floor.proofs.View.{StepView, turned, began, read-served, write-served, read-heard, issued, write-heard, decided, aborted, stopped, left, step-view}
-use Rattle.floor.proofs.Keeps.{Lengths, step-lengths, step-sizes}
-use Rattle.floor.proofs.RowLaws.{SameAttempt, apply-begun, row-same}
+use Rattle.floor.proofs.Keeps.{step-lengths, step-sizes}
+use Rattle.floor.proofs.RowLaws.{apply-begun, row-same}
+use Rattle.floor.proofs.Outcomes.{Meaning, step-means}
 use Rattle.agreement.specs.Words.{Before, commandAt, floorAt, saidAt, Attempt, attemptRank, Named}
 use Rattle.agreement.proofs.History.{Happening, History}
-use Rattle.agreement.proofs.Reach.{eventOf, Reached, reached-next, Cause, cause, Told, told, New, new-reached}
+use Rattle.agreement.proofs.Reach.{eventOf, Reached, reached-next, Cause, cause, New, new-reached}
 
 -- a number below suc k is k or below k
 pub up-to : {c k : ℕ} → c < suc k → (c ≡ k) ⊎ (c < k)
 up-to h = eq-or-lt-of-le (omega arith)
 
--- the begin that put the row w into use
-record BeginsRow (c : Command) (o : Outcome) (a : ℕ) (w : Row) : Type 0 where
-  pub station : ℕ
-  pub round : ℕ
-  pub offer : ℕ
-  pub asked : c ≡ Begin station round offer
-  pub accepted : o ≡ said.Begun a
-  pub owner : w .station ≡ station
-  pub rank : w .rank ≡ rankOf round station
-
-begins-row : {f : Floor} {c : Command} {s : Stepped} → Lengths f → StepView f c s → (a : ℕ) → ¬ (a < f .used) → a < s .floor .used → BeginsRow c (s .outcome) a (rowAt (s .floor) a)
-unfolding newRow
-begins-row y (turned k t) a h u = absurd (h u)
-begins-row {f} y (began {s = s} {round = r} {v = v} z d) a h u =
-    let e : a ≡ f .used = omega arith in
-    let q = ap (λ (i : ℕ). rowAt (afterBegin f s r v) i) e ∙ getD-set-same (f .rows) (f .used) (newRow (f .n) s r v) row0 (omega (arith, y .rows, d .row)) in
-    record { station = s; round = r; offer = v; asked = refl; accepted = ap said.Begun (sym e); owner = ap (λ (w : Row). w .station) q; rank = ap (λ (w : Row). w .rank) q }
-begins-row y (read-served z d) a h u = absurd (h u)
-begins-row y (write-served z d) a h u = absurd (h u)
-begins-row y (read-heard z d q) a h u = absurd (h u)
-begins-row y (issued z d r q) a h u = absurd (h u)
-begins-row y (write-heard z d q) a h u = absurd (h u)
-begins-row y (decided z d r q t) a h u = absurd (h u)
-begins-row y (aborted z d r q t) a h u = absurd (h u)
-begins-row y (stopped z d) a h u = absurd (h u)
-begins-row y (left z d) a h u = absurd (h u)
+-- a row that is in use after a step and was not before was begun by it
+begun-then : {f : Floor} {c : Command} {s : Stepped} → StepView f c s → (a : ℕ) → ¬ (a < f .used) → a < s .floor .used → s .outcome ≡ said.Begun a
+begun-then (turned k t) a h u = absurd (h u)
+begun-then {f} (began z d) a h u = let e : f .used ≡ a = omega arith in ap said.Begun e
+begun-then (read-served z d) a h u = absurd (h u)
+begun-then (write-served z d) a h u = absurd (h u)
+begun-then (read-heard z d q) a h u = absurd (h u)
+begun-then (issued z d r q) a h u = absurd (h u)
+begun-then (write-heard z d q) a h u = absurd (h u)
+begun-then (decided z d r q t) a h u = absurd (h u)
+begun-then (aborted z d r q t) a h u = absurd (h u)
+begun-then (stopped z d) a h u = absurd (h u)
+begun-then (left z d) a h u = absurd (h u)
 
 module _ (f : Floor) (l : List (List ℕ)) where
   view-at : (i : ℕ) → StepView (floorAt f l i) (commandAt l i) (stepOf (floorAt f l i) (getD l i []))
@@ -122,14 +106,14 @@ module _ (f : Floor) (l : List (List ℕ)) where
     reached-at (suc i) =
         reached-next (reached-at i) (view-at i) (step-lengths (floorAt f l i) (getD l i []) (reached-at i .lengths)) (step-sizes (floorAt f l i) (getD l i []) .boxes)
 
-    -- what a step that said o told
-    pub told-at : (i : ℕ) (o : Outcome) → saidAt f l i ≡ o → Told (floorAt f l i) (history i) (commandAt l i) (floorAt f l (suc i)) o
+    -- what it means that the step at i said o
+    pub means-at : (i : ℕ) (o : Outcome) → saidAt f l i ≡ o → Meaning (floorAt f l i) (commandAt l i) (floorAt f l (suc i)) o
     unfolding floorAt
-    told-at i o e =
-        subst (Told (floorAt f l i) (history i) (commandAt l i) (stepOf (floorAt f l i) (getD l i []) .floor)) e (told (reached-at i .shows) (reached-at i .lengths) (view-at i))
+    means-at i o e =
+        subst (Meaning (floorAt f l i) (commandAt l i) (stepOf (floorAt f l i) (getD l i []) .floor)) e (step-means (floorAt f l i) (getD l i []) (reached-at i .lengths))
 
     pub row-at : (i a : ℕ) → a < floorAt f l i .used → RowOf i a
-    unfolding floorAt stepOf
+    unfolding floorAt stepOf newRow
     row-at zero a h = absurd (omega (arith, new .unused))
     row-at (suc i) a h = elim (decLt a (floorAt f l i .used)) [
       | yes u ↦ (
@@ -143,12 +127,14 @@ module _ (f : Floor) (l : List (List ℕ)) where
             rank = o .rank ∙ sym (k .rank);
           })
       | no u ↦ (
-          let b = begins-row (reached-at i .lengths) (view-at i) a u h in
+          let e = begun-then (view-at i) a u h in
+          let b = means-at i (said.Begun a) e in
+          let r = ap (rowAt (floorAt f l (suc i))) (b .next) ∙ b .row in
           record {
-            attempt = record { at = i; station = b .station; round = b .round; offer = b .offer; number = a; asked = b .asked; begun = b .accepted };
+            attempt = record { at = i; station = b .station; round = b .round; offer = b .offer; number = a; asked = b .command; begun = e };
             number = refl;
             named = record { earlier = omega arith; last = λ k p q. absurd (omega arith) };
-            station = sym (b .owner);
-            rank = sym (b .rank);
+            station = sym (ap (λ (w : Row). w .station) r);
+            rank = sym (ap (λ (w : Row). w .rank) r);
           })
     ]

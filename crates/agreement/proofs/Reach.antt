@@ -36,7 +36,7 @@ use Rattle.floor.proofs.View.{CanStop, CanLeave, StepView, turned, began, read-
 use Rattle.floor.proofs.View as view
 use Rattle.floor.proofs.Keeps.{Lengths, empty-lengths}
 use Rattle.floor.proofs.Stores.{set-all, getD-same}
-use Rattle.agreement.proofs.History.{offered, quiet, Happening, History, Offered, offered-stays, toBox, boxesOf, Paired, Seat, seats-stored, last-stored, Shows, rows-kept}
+use Rattle.agreement.proofs.History.{offered, quiet, Happening, History, Offered, offered-stays, toBox, boxesOf, Paired, Seat, seats-stored, last-stored, Shows, shows-kept}
 use Rattle.agreement.proofs.Serves.{Goes, readEvent, wroteEvent, writeEvent, serve-read-goes, serve-write-goes}
 use Rattle.agreement.proofs.Deliveries.{viewOf, owner-writes}
 use Rattle.agreement.proofs.Issues.{read-heard-goes, issue-goes}
@@ -69,19 +69,19 @@ reached-inv {f} k = run-inv (f .n) _≡_ Offered (equality .transitive) offered-
 -- the rows stay, and nothing is noted
 module _ {f : Floor} {l : History} (s : Shows f l) where
   refused-goes : Goes f l f (note quiet)
-  refused-goes = record { step = other-event (λ j. refl); shows = rows-kept s (note quiet) (f .boxes) (f .stations) (s .paired) (λ j. refl) refl (s .seats) }
+  refused-goes = record { step = other-event (λ j. refl); shows = shows-kept s (note quiet) (f .boxes) (f .stations) (s .paired) (λ j. refl) refl (s .seats) }
 
   stop-goes : (b : ℕ) → Goes f l (afterStop f b) (note quiet)
   stop-goes b = record {
     step = other-event (set-all box0 (λ (j : ℕ) (x : StorageBox). toBox x ≡ boxesOf f j) (f .boxes) b _ (λ j. refl) refl);
-    shows = rows-kept s (note quiet) _ (f .stations)
+    shows = shows-kept s (note quiet) _ (f .stations)
         (set-all box0 (λ (j : ℕ) (x : StorageBox). Paired (x .register .write) (x .register .value)) (f .boxes) b _ (s .paired) (s .paired b)) (λ j. refl) refl (s .seats);
   }
 
   leave-goes : Lengths f → Sound f → (j : ℕ) → CanLeave f j → Goes f l (afterLeave f j) (note quiet)
   leave-goes y z j d = record {
     step = other-event (λ i. refl);
-    shows = rows-kept s (note quiet) (f .boxes) _ (s .paired) (last-stored (f .stations) j (withState (stationAt f j) phase.Gone) refl) refl
+    shows = shows-kept s (note quiet) (f .boxes) _ (s .paired) (last-stored (f .stations) j (withState (stationAt f j) phase.Gone) refl) refl
         (seats-stored (f .used) (f .rows) (f .stations) j (withState (stationAt f j) phase.Gone) (omega (arith, y .stations, d .station, z .station-most))
         (λ i p. s .seats i) tt);
   }
@@ -93,9 +93,9 @@ goes w y (read-served {a = a} {b = b} z d) = serve-read-goes w y z a b d
 goes w y (write-served {a = a} {b = b} z d) = serve-write-goes w y z a b d
 goes w y (read-heard {a = a} {b = b} z d q) = read-heard-goes w y z a b d
 goes w y (view.issued {a = a} {b = b} z d r q) = issue-goes w y z a b d r q
-goes w y (write-heard {a = a} {b = b} z d q) = write-heard-goes w y z a b d
-goes w y (decided {a = a} {b = b} z d r q t) = decision-goes w y z a b d r
-goes w y (aborted {a = a} {b = b} z d r q t) = abort-goes w y z a b d
+goes w y (write-heard {a = a} {b = b} z d q) = write-heard-goes w a b d y z
+goes w y (decided {a = a} {b = b} z d r q t) = decision-goes w a b d y z r
+goes w y (aborted {a = a} {b = b} z d r q t) = abort-goes w a b d y z
 goes w y (stopped {b = b} z d) = stop-goes w b
 goes w y (left {s = s} z d) = leave-goes w y z s d
 
@@ -145,58 +145,6 @@ cause (decided z d r q t) = tt
 cause (aborted z d r q t) = tt
 cause (stopped z d) = tt
 cause (left z d) = tt
-
--- What a step that decides or aborts tells of the floor f before it, with its history l, and of the floor g after it.
-pub record Deciding (f : Floor) (l : History) (c : Command) (g : Floor) (v : ℕ) : Type 0 where
-  pub attempt : ℕ
-  pub box : ℕ
-  pub asked : c ≡ DeliverWrite attempt box
-  pub used : attempt < f .used
-  pub positive : 0 < v
-  pub chosen : Chosen (f .n) (viewOf f l) (rowAt f attempt .rank) v
-  pub shown : stationAt g (rowAt f attempt .station) .decided ≡ v
-
-pub record Aborting (f : Floor) (l : History) (c : Command) (a : ℕ) : Type 0 where
-  pub box : ℕ
-  pub asked : c ≡ DeliverWrite a box
-  pub used : a < f .used
-  pub place : ℕ
-  pub refusal : List·Memᴰ (refused (rowAt f a .rank) place) l
-  pub untaken : ¬ List·Memᴰ (took (rowAt f a .rank) place) l
-
-abbrev pub Told : Floor → History → Command → Floor → Outcome → Type 0
-Told f l c g (said.Begun a) = Unit {0}
-Told f l c g (said.Served a) = Unit {0}
-Told f l c g (said.Received a) = Unit {0}
-Told f l c g (said.Aborted a) = Aborting f l c a
-Told f l c g (said.WriteIssued v) = Unit {0}
-Told f l c g (said.Decided v) = Deciding f l c g v
-Told f l c g (said.Stopped b) = Unit {0}
-Told f l c g (said.Gone s) = Unit {0}
-Told f l c g (said.Refused k) = Unit {0}
-
-pub told : {f : Floor} {l : History} {c : Command} {s : Stepped} → Shows f l → Lengths f → StepView f c s → Told f l c (s .floor) (s .outcome)
-told w y (turned k t) = tt
-told w y (began z d) = tt
-told w y (read-served z d) = tt
-told w y (write-served z d) = tt
-told w y (read-heard z d q) = tt
-told w y (view.issued z d r q) = tt
-told w y (write-heard z d q) = tt
-told {f} w y (decided {a = a} {b = b} z d r q t) = record {
-  attempt = a;
-  box = b;
-  asked = refl;
-  used = d .used;
-  positive = owner-writes w y z a (d .used) r;
-  chosen = decision-chosen w y z a b d r q t;
-  shown = ap (λ (x : Station). x .decided) (getD-set-same (f .stations) (rowAt f a .station) _ station0 (omega (arith, y .stations, z .stations a (d .used), z .station-most)));
-}
-told w y (aborted {a = a} {b = b} z d r q t) =
-    let m = abort-refused w y z a b d t in
-    record { box = b; asked = refl; used = d .used; place = m .0; refusal = m .1; untaken = m .2 }
-told w y (stopped z d) = tt
-told w y (left z d) = tt
 
 -- A new floor: nothing has happened on it.
 pub record New (f : Floor) : Type 0 where

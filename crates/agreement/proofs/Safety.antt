@@ -22,9 +22,10 @@ use Rattle.floor.proofs.StationLaws.{Decides, decided-from}
 use Rattle.agreement.specs.Words.{Before, commandAt, floorAt, saidAt, Attempt, attemptRank, Named, OfferedAt, ServedAt, DecidesAt, AbortsAt, OutrankedAt, shownAt, ShownAt}
 use Rattle.agreement.specs.Claim.{firstFloor, Safety}
 use Rattle.agreement.proofs.History.{offered, Offered}
-use Rattle.agreement.proofs.Deliveries.{viewOf}
+use Rattle.agreement.proofs.Deliveries.{viewOf, owner-writes}
+use Rattle.agreement.proofs.Decisions.{decision-chosen, abort-refused}
 use Rattle.agreement.proofs.Reach.{reached-inv, Serving, New, new-floor}
-use Rattle.agreement.proofs.Positions.{up-to, history, caused, still-happened, size-at, RowOf, reached-at, told-at, row-at}
+use Rattle.agreement.proofs.Positions.{up-to, history, caused, still-happened, size-at, RowOf, reached-at, means-at, row-at}
 
 module _ (f : Floor) (l : List (List ℕ)) where
   -- one number names one attempt
@@ -37,25 +38,40 @@ module _ (f : Floor) (l : List (List ℕ)) where
         | no h ↦ elim (decLt (y .at) (x .at)) [ yes k ↦ absurd (m .last (x .at) k (n .earlier) (x .begun ∙ ap said.Begun e)) | no k ↦ omega arith ]
       ]
 
+  -- a revision is chosen before the step at i
+  abbrev ChosenAt : ℕ → ℕ → ℕ → Type 0
+  ChosenAt r v i = Chosen (floorAt f l i .n) (viewOf (floorAt f l i) (history f l i)) r v
+
+  -- .. and before every later one
+  chosen-later : (i t r v : ℕ) → i ≤ t → ChosenAt r v i → ChosenAt r v t
+  chosen-later i t r v h c = record {
+    issued = still-happened f l i t h (c .issued);
+    taken = subst (λ (n : ℕ). Majority n (λ b. List·Memᴰ (took r b) (history f l t))) (size-at f l i ∙ sym (size-at f l t))
+        (majority-map (λ b m. still-happened f l i t h m) (c .taken));
+  }
+
   module _ (new : New f) where
-    -- what was chosen before i is chosen before every later position
-    chosen-later : (i t r v : ℕ) → i ≤ t → Chosen (floorAt f l i .n) (viewOf (floorAt f l i) (history f l i)) r v
-        → Chosen (floorAt f l t .n) (viewOf (floorAt f l t) (history f l t)) r v
-    chosen-later i t r v h c = record {
-      issued = still-happened f l i t h (c .issued);
-      taken = subst (λ (n : ℕ). Majority n (λ b. List·Memᴰ (took r b) (history f l t))) (size-at f l i ∙ sym (size-at f l t))
-          (majority-map (λ b m. still-happened f l i t h m) (c .taken));
-    }
+    -- a decision is of a revision chosen, which is none of 0
+    chosen-at : (i v : ℕ) → saidAt f l i ≡ said.Decided v → (r : ℕ) × ChosenAt r v i
+    chosen-at i v e =
+        let m = means-at f l new i (said.Decided v) e in
+        let c = decision-chosen (reached-at f l new i .shows) (m .attempt) (m .box) (m .answer .may) (m .answer .writing) (m .answer .quorum) (m .taken) in
+        (rowAt (floorAt f l i) (m .attempt) .rank, subst (λ (u : ℕ). ChosenAt (rowAt (floorAt f l i) (m .attempt) .rank) u i) (sym (m .written)) c)
+
+    decided-positive : (i v : ℕ) → saidAt f l i ≡ said.Decided v → 0 < v
+    decided-positive i v e =
+        let m = means-at f l new i (said.Decided v) e in
+        omega (arith, m .written, owner-writes (reached-at f l new i .shows) (m .attempt) (m .answer .may .used) (m .answer .writing))
 
     agreement : (i j u v : ℕ) → saidAt f l i ≡ said.Decided u → saidAt f l j ≡ said.Decided v → u ≡ v
     agreement i j u v e g =
         consensus (floorAt f l (i + j) .n) (reached-inv (reached-at f l new (i + j)))
-        (chosen-later i (i + j) _ u (omega arith) (told-at f l new i (said.Decided u) e .chosen))
-        (chosen-later j (i + j) _ v (omega arith) (told-at f l new j (said.Decided v) g .chosen))
+        (chosen-later i (i + j) _ u (omega arith) (chosen-at i u e .1))
+        (chosen-later j (i + j) _ v (omega arith) (chosen-at j v g .1))
 
     validity : (i v : ℕ) → saidAt f l i ≡ said.Decided v → Before (OfferedAt f l v) i
     validity i v e =
-        let o = reached-inv (reached-at f l new i) .offered _ v (told-at f l new i (said.Decided v) e .chosen .issued) in
+        let o = reached-inv (reached-at f l new i) .offered _ v (chosen-at i v e .1 .issued) in
         let x = caused f l (note (offered v)) i o in
         let y = x .holds in
         record {
@@ -85,22 +101,23 @@ module _ (f : Floor) (l : List (List ℕ)) where
 
     abort : (i a : ℕ) → saidAt f l i ≡ said.Aborted a → OutrankedAt f l i
     abort i a e =
-        let c = told-at f l new i (said.Aborted a) e in
-        let o = row-at f l new i a (c .used) in
+        let m = means-at f l new i (said.Aborted a) e in
+        let o = row-at f l new i a (m .answer .may .used) in
         let k = reached-at f l new i in
-        let y = outranked (floorAt f l i .n) _≡_ Offered (k .run) (rowAt (floorAt f l i) a .rank) (c .place) (k .shows .rows a (c .used) .positive) (c .refusal) (c .untaken) in
+        let c = abort-refused (k .shows) a (m .box) (m .answer .may) (m .taken) in
+        let y = outranked (floorAt f l i .n) _≡_ Offered (k .run) (rowAt (floorAt f l i) a .rank) (c .0) (k .shows .rows a (m .answer .may .used) .positive) (c .1) (c .2) in
         record {
           attempt = o .attempt;
           aborts = record {
             named = o .named;
-            box = c .box;
-            asked = c .asked ∙ ap (λ (x : ℕ). DeliverWrite x (c .box)) (sym (o .number));
+            box = m .box;
+            asked = m .answer .command ∙ ap (λ (x : ℕ). DeliverWrite x (m .box)) (sym (o .number));
             accepted = e ∙ ap said.Aborted (sym (o .number));
           };
           rank = y .rank;
-          box = c .place;
+          box = c .0;
           higher = omega (arith, y .higher, o .rank);
-          served = served-before i (y .rank) (c .place) (y .served);
+          served = served-before i (y .rank) (c .0) (y .served);
         }
 
     -- the delivery that says decided, of an attempt whose row is the station's
@@ -118,8 +135,8 @@ module _ (f : Floor) (l : List (List ℕ)) where
     -- every decision is that of a station
     pub decision-of : (i v : ℕ) → saidAt f l i ≡ said.Decided v → (s : ℕ) × DecidesAt f l s v i
     decision-of i v e =
-        let c = told-at f l new i (said.Decided v) e in
-        (rowAt (floorAt f l i) (c .attempt) .station, decides-at i _ v (c .attempt) (c .box) (c .asked) (c .used) refl e)
+        let m = means-at f l new i (said.Decided v) e in
+        (rowAt (floorAt f l i) (m .attempt) .station, decides-at i _ v (m .attempt) (m .box) (m .answer .command) (m .answer .may .used) refl e)
 
     shown-decided : (s i : ℕ) → 0 < shownAt f l s i → Before (DecidesAt f l s (shownAt f l s i)) i
     unfolding floorAt stepOf
@@ -134,19 +151,20 @@ module _ (f : Floor) (l : List (List ℕ)) where
     -- a station that decided shows a revision at once, and from then on
     shown-now : (s v i : ℕ) → DecidesAt f l s v i → shownAt f l s (suc i) ≡ v
     shown-now s v i d =
-        let c = told-at f l new i (said.Decided v) (d .accepted) in
-        let o = row-at f l new i (c .attempt) (c .used) in
-        let n : o .attempt .number ≡ d .attempt .number = o .number ∙ (let e : c .attempt ≡ d .attempt .number = cc (c .asked, d .asked) in e) in
-        ap (λ (j : ℕ). stationAt (floorAt f l (suc i)) j .decided) (sym (sym (o .station) ∙ one-attempt (o .attempt) (d .attempt) (o .named) (d .named) n ∙ d .station)) ∙ c .shown
+        let m = means-at f l new i (said.Decided v) (d .accepted) in
+        let o = row-at f l new i (m .attempt) (m .answer .may .used) in
+        let n : m .attempt ≡ d .attempt .number = cc (m .answer .command, d .asked) in
+        let q = sym (o .station) ∙ one-attempt (o .attempt) (d .attempt) (o .named) (d .named) (o .number ∙ n) ∙ d .station in
+        ap (λ (j : ℕ). stationAt (floorAt f l (suc i)) j .decided) (sym q) ∙ ap (λ (x : Station). x .decided) (m .owner) ∙ sym (m .written)
 
     shown-still : (s v k i : ℕ) → DecidesAt f l s v k → k < i → 0 < shownAt f l s i
     unfolding floorAt stepOf
     shown-still s v k zero d h = absurd (omega arith)
     shown-still s v k (suc i) d h = elim (up-to h) [
-      | inl q ↦ omega (arith, shown-now s v i (subst (DecidesAt f l s v) q d), told-at f l new k (said.Decided v) (d .accepted) .positive)
+      | inl q ↦ omega (arith, shown-now s v i (subst (DecidesAt f l s v) q d), decided-positive k v (d .accepted))
       | inr q ↦ elim (decided-from (floorAt f l i) (commandAt l i) s) [
         | inl e ↦ omega (arith, shown-still s v k i d q)
-        | inr x ↦ told-at f l new i (said.Decided _) (x .outcome) .positive
+        | inr x ↦ decided-positive i _ (x .outcome)
       ]
     ]
 

@@ -28,7 +28,7 @@ use Rattle.floor.proofs.Forms.{withBox, withRow, afterServeRead, afterServeWrit
 use Rattle.floor.proofs.View.{CanServe}
 use Rattle.floor.proofs.Keeps.{Lengths}
 use Rattle.floor.proofs.Stores.{set-all, set-in, edit-set}
-use Rattle.agreement.proofs.History.{Happening, History, Offered, toBox, boxesOf, writerOf, isAnswered, isIssued, Paired, RowShows, Seat, seat-stored, Shows, reads-more, writes-more, row-stored}
+use Rattle.agreement.proofs.History.{Happening, History, Offered, toBox, boxesOf, writerOf, isAnswered, isIssued, Paired, RowShows, Seat, seat-stored, Shows, reads-more, writes-more, shows-stored}
 
 -- From the floor f with the history l to the floor g with the event e.
 pub record Goes (f : Floor) (l : History) (g : Floor) (e : Happening) : Type 0 where
@@ -105,7 +105,7 @@ module _ {f : Floor} {l : History} (s : Shows f l) (y : Lengths f) (z : Sound f)
     unfolding rmwRead
     serve-read-goes = record {
       step = serve-read (box-edit f b _ (omega (arith, d .box, z .box-most)) y (readBox (rowAt f a .rank)) refl) refl refl;
-      shows = row-stored s (readEvent f a b) _ (f .stations) (boxes-paired s b _ (s .paired b)) (λ j. refl)
+      shows = shows-stored s (readEvent f a b) _ (f .stations) (boxes-paired s b _ (s .paired b)) (λ j. refl)
           y a (d .used) (z .rows-most) _ refl (λ r q. absurd (omega arith)) read-row (seats-kept s a _ refl refl);
     }
 
@@ -152,7 +152,7 @@ module _ {f : Floor} {l : History} (s : Shows f l) (y : Lengths f) (z : Sound f)
 
     served-shows : (w : WriteDone) → Paired (w .register .write) (w .register .value) → Shows (served w) (wroteEvent (w .taken) rank b ∷ l)
     served-shows w p =
-        row-stored s (wroteEvent (w .taken) rank b) _ (f .stations) (boxes-paired s b (withRegister (boxAt f b) (w .register)) p) (λ j. refl)
+        shows-stored s (wroteEvent (w .taken) rank b) _ (f .stations) (boxes-paired s b (withRegister (boxAt f b) (w .register)) p) (λ j. refl)
         y a (d .used) (z .rows-most) _ refl (wrote-own (w .taken) rank b) (write-row (w .taken)) (seats-kept s a _ refl refl)
 
     serve-write : {w : WriteDone} → Written (boxAt f b .register) rank (rowAt f a .written) w → Goes f l (served w) (wroteEvent (w .taken) rank b)
