@@ -7,3 +7,4 @@ pub mod Begins
 pub mod Reach
 pub mod Positions
 pub mod Safety
+pub mod Standing

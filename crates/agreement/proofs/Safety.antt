@@ -138,7 +138,7 @@ module _ (f : Floor) (l : List (List ℕ)) where
         let m = means-at f l new i (said.Decided v) e in
         (rowAt (floorAt f l i) (m .attempt) .station, decides-at i _ v (m .attempt) (m .box) (m .answer .command) (m .answer .may .used) refl e)
 
-    shown-decided : (s i : ℕ) → 0 < shownAt f l s i → Before (DecidesAt f l s (shownAt f l s i)) i
+    pub shown-decided : (s i : ℕ) → 0 < shownAt f l s i → Before (DecidesAt f l s (shownAt f l s i)) i
     unfolding floorAt stepOf
     shown-decided s zero h = absurd (omega (arith, ap (λ (x : Station). x .decided) (new .stations s)))
     shown-decided s (suc i) h = elim (decided-from (floorAt f l i) (commandAt l i) s) [
