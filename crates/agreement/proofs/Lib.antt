@@ -8,3 +8,4 @@ pub mod Reach
 pub mod Positions
 pub mod Safety
 pub mod Standing
+pub mod Consequences

@@ -13,6 +13,7 @@ use Rattle.protocol.proofs.Runs.{outranked}
 use Rattle.protocol.proofs.Instances.{consensus}
 use Rattle.floor.specs.State.{stationAt, rowAt}
 use Rattle.floor.specs.Step.{stepOf}
+use Rattle.floor.specs.declared.Phase.the-variants.{Decided}
 use Rattle.floor.specs.declared.Station.{Station}
 use Rattle.floor.specs.declared.Floor.{Floor}
 use Rattle.floor.specs.declared.Command.{Command}
@@ -63,7 +64,7 @@ module _ (f : Floor) (l : List (List ℕ)) where
         let m = means-at f l new i (said.Decided v) e in
         omega (arith, m .written, owner-writes (reached-at f l new i .shows) (m .attempt) (m .answer .may .used) (m .answer .writing))
 
-    agreement : (i j u v : ℕ) → saidAt f l i ≡ said.Decided u → saidAt f l j ≡ said.Decided v → u ≡ v
+    pub agreement : (i j u v : ℕ) → saidAt f l i ≡ said.Decided u → saidAt f l j ≡ said.Decided v → u ≡ v
     agreement i j u v e g =
         consensus (floorAt f l (i + j) .n) (reached-inv (reached-at f l new (i + j)))
         (chosen-later i (i + j) _ u (omega arith) (chosen-at i u e .1))
@@ -148,16 +149,32 @@ module _ (f : Floor) (l : List (List ℕ)) where
       | inr d ↦ record { at = i; earlier = omega arith; holds = decides-at i s _ (d .attempt) (d .box) (d .command) (d .used) (d .owner) (d .outcome) }
     ]
 
-    -- a station that decided shows a revision at once, and from then on
-    shown-now : (s v i : ℕ) → DecidesAt f l s v i → shownAt f l s (suc i) ≡ v
-    shown-now s v i d =
+    -- the step by which the station s decides v: its row, and the station after it
+    pub record Decider (s v i : ℕ) : Type 0 where
+      pub row : ℕ
+      pub used : row < floorAt f l i .used
+      pub owner : rowAt (floorAt f l i) row .station ≡ s
+      pub settled : stationAt (floorAt f l (suc i)) s ≡ record { state = Decided row; last = stationAt (floorAt f l i) s .last; decided = v }
+
+    pub decider-at : (s v i : ℕ) → DecidesAt f l s v i → Decider s v i
+    decider-at s v i d =
         let m = means-at f l new i (said.Decided v) (d .accepted) in
         let o = row-at f l new i (m .attempt) (m .answer .may .used) in
         let n : m .attempt ≡ d .attempt .number = cc (m .answer .command, d .asked) in
         let q = sym (o .station) ∙ one-attempt (o .attempt) (d .attempt) (o .named) (d .named) (o .number ∙ n) ∙ d .station in
-        ap (λ (j : ℕ). stationAt (floorAt f l (suc i)) j .decided) (sym q) ∙ ap (λ (x : Station). x .decided) (m .owner) ∙ sym (m .written)
+        record {
+          row = m .attempt;
+          used = m .answer .may .used;
+          owner = q;
+          settled = subst (λ (j : ℕ). stationAt (floorAt f l (suc i)) j ≡ record { state = Decided (m .attempt); last = stationAt (floorAt f l i) j .last; decided = v }) q
+              (m .owner ∙ ap (λ (u : ℕ). record { state = Decided (m .attempt); last = stationAt (floorAt f l i) (rowAt (floorAt f l i) (m .attempt) .station) .last; decided = u }) (sym (m .written)));
+        }
 
-    shown-still : (s v k i : ℕ) → DecidesAt f l s v k → k < i → 0 < shownAt f l s i
+    -- a station that decided shows a revision at once, and from then on
+    shown-now : (s v i : ℕ) → DecidesAt f l s v i → shownAt f l s (suc i) ≡ v
+    shown-now s v i d = ap (λ (x : Station). x .decided) (decider-at s v i d .settled)
+
+    pub shown-still : (s v k i : ℕ) → DecidesAt f l s v k → k < i → 0 < shownAt f l s i
     unfolding floorAt stepOf
     shown-still s v k zero d h = absurd (omega arith)
     shown-still s v k (suc i) d h = elim (up-to h) [
