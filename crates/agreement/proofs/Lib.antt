@@ -9,3 +9,4 @@ pub mod Positions
 pub mod Safety
 pub mod Standing
 pub mod Consequences
+pub mod Examples
