@@ -10,3 +10,4 @@ pub mod Safety
 pub mod Standing
 pub mod Consequences
 pub mod Examples
+pub mod Lists
