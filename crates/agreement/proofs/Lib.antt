@@ -11,3 +11,5 @@ pub mod Standing
 pub mod Consequences
 pub mod Examples
 pub mod Lists
+pub mod Alone
+pub mod Demand

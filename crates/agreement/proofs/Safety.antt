@@ -122,7 +122,7 @@ module _ (f : Floor) (l : List (List ℕ)) where
         }
 
     -- the delivery that says decided, of an attempt whose row is the station's
-    decides-at : (k s v a b : ℕ) → commandAt l k ≡ DeliverWrite a b → a < floorAt f l k .used → rowAt (floorAt f l k) a .station ≡ s → saidAt f l k ≡ said.Decided v
+    pub decides-at : (k s v a b : ℕ) → commandAt l k ≡ DeliverWrite a b → a < floorAt f l k .used → rowAt (floorAt f l k) a .station ≡ s → saidAt f l k ≡ said.Decided v
         → DecidesAt f l s v k
     decides-at k s v a b c u q e = let o = row-at f l new k a u in record {
       attempt = o .attempt;

@@ -1,0 +1,50 @@
+-- Demand 3, whole. The proof is `demand3` in proofs/Demand.
+use Prim.Native.Nat.{ℕ, suc, _+_, _*_, _<_}
+use mathlib.Core.Path.{_≡_}
+use mathlib.Core.Bool.{false}
+use mathlib.Core.List.{List, [], _++_}
+use lib.ListN.{length, getD}
+use Rattle.base.specs.Numbers.{quorum}
+use Rattle.protocol.specs.Quorum.{Majority}
+use Rattle.floor.specs.Step.{isRefused}
+use Rattle.floor.specs.declared.Floor.{Floor}
+use Rattle.floor.specs.declared.Outcome.the-variants as said
+use Rattle.solo.specs.Solo.{soloOf}
+use Rattle.solo.specs.declared.Solo.{Solo}
+use Rattle.agreement.specs.Words.{floorAt, saidAt, DecidesAt, Answering, IdleAt, attemptsBefore, RoundLeft}
+use Rattle.agreement.specs.Claim.{firstFloor, Safety}
+
+-- "A single step is handed in as its 8-byte record"
+pub record IsRecord (r : List ℕ) : Type 0 where
+  pub eight : length r ≡ 8
+  pub bytes : (j : ℕ) → getD r j 0 < 256
+
+-- "Driven alone: by a solo finish for it, with any revision. Its steps put behind the list make the floor it hands back, the last of
+-- them says decided, and its number is how many they are." The station s, behind the list l from the floor f; d is what the solo finish
+-- hands back.
+pub record DrivenAlone (f : Floor) (l : List (List ℕ)) (s : ℕ) (d : Solo) : Type 0 where
+  pub steps : List (List ℕ)
+  pub records : (i : ℕ) → i < length steps → IsRecord (getD steps i [])
+  pub accepted : (i : ℕ) → i < length steps → isRefused (saidAt f (l ++ steps) (length l + i)) ≡ false
+  pub floor : floorAt f (l ++ steps) (length (l ++ steps)) ≡ d .floor
+  pub revision : ℕ
+  pub decides : (i : ℕ) → suc i ≡ length steps → DecidesAt f (l ++ steps) s revision (length l + i)
+  pub outcome : d .outcome ≡ said.Decided revision
+  pub number : d .steps ≡ length steps
+  -- "in exactly 4q + 1 steps"
+  pub count : d .steps ≡ 4 * quorum (f .n) + 1
+
+pub record Demand3 (n m : ℕ) (l : List (List ℕ)) : Type 0 where
+  pub safety : Safety n m l
+  -- "On any floor so reached, given q answering boxes, q being a majority of all boxes, fewer than 64 attempts, and a round left that
+  -- outranks every attempt begun, an idle station driven alone, whatever revision it offers, decides in exactly 4q + 1 steps." A
+  -- revision is "a 32-bit number other than 0".
+  pub solo : (s v : ℕ)
+      → s < firstFloor n m .m
+      → IdleAt (firstFloor n m) l s (length l)
+      → Majority (firstFloor n m .n) (Answering (firstFloor n m) l (length l))
+      → attemptsBefore (firstFloor n m) l (length l) < 64
+      → RoundLeft (firstFloor n m) l s (length l)
+      → 0 < v
+      → v < 4294967296
+      → DrivenAlone (firstFloor n m) l s (soloOf (floorAt (firstFloor n m) l (length l)) s v)
