@@ -47,8 +47,8 @@ module _ (s : List ℕ) (e : fileRefusal s ≡ 0) where
       let many = records-length (recordCount s) s (recordsStart s) in
       rw (label-is s e)
       (record {
-        boxes = p .floored .boxes;
-        stations = p .floored .stations;
+        boxes = (p .floored .box-least, p .floored .box-most);
+        stations = (p .floored .station-least, p .floored .station-most);
         labelled = rw label-long (p .labelled .some, p .labelled .few);
         printable = p .labelled .printable;
         few = rw many (p .recorded .few);
@@ -121,7 +121,7 @@ module _ (n m : ℕ) (l : List ℕ) (rs : List (List ℕ)) (p : Parts n m l rs) 
           stated = stated;
         };
         version = refl;
-        floored = record { boxes = p .boxes; stations = p .stations };
+        floored = record { box-least = p .boxes .0; box-most = p .boxes .1; station-least = p .stations .0; station-most = p .stations .1 };
         labelled = record {
           some = p .labelled .0;
           few = p .labelled .1;

@@ -8,8 +8,8 @@ use borrow.Author.Tests.{ltb-false, eqb-true, not-false, le-ltb, eq-eqb}
 use lib.Dec.{eqb, ltb}
 use lib.ListN.{length, getD}
 use Rattle.base.specs.Choice.{if_then_else_}
-use Rattle.base.specs.Numbers.{sizesRight}
 use Rattle.base.proofs.Choices.{on-true, on-false, by-test, first-false}
+use Rattle.base.proofs.SizeLaws.{Sizes, sizes-mean, sizes-hold}
 use Rattle.drill_file.specs.DrillFile.{statedSize, versionOf, boxesOf, stationsOf, labelLength, labelPart, recordsStart, afterLabel, recordCount, wrongSize, wrongVersion, wrongFloor, wrongByte, wrongBytes, wrongLabel, wrongRecords, fileRefusal}
 
 -- a chain of tests that ends in false: each of them failed
@@ -44,26 +44,6 @@ unfolding wrongSize
 size-holds s z =
     sym (on-false _ (le-ltb (length s) 6 (z .least))
     (on-false _ (le-ltb 32806 (length s) (z .most)) (ap not (sym (eq-eqb (statedSize s) (length s - 2) (z .stated))))))
-
--- refusal 3
-pub record Floored (n m : ℕ) : Type 0 where
-  pub boxes : (1 ≤ n) × (n ≤ 9)
-  pub stations : (1 ≤ m) × (m ≤ 16)
-
-pub floor-means : (n m : ℕ) → sizesRight n m ≡ true → Floored n m
-unfolding sizesRight
-floor-means n m e =
-    let a = first-false _ _ e in
-    let b = first-false _ _ (a .1) in
-    let c = first-false _ _ (b .1) in
-    let d = first-false _ _ (c .1) in
-    record { boxes = (ltb-false n 1 (a .0), ltb-false 9 n (b .0)); stations = (ltb-false m 1 (c .0), ltb-false 16 m (d .0)) }
-
-pub floor-holds : (n m : ℕ) → Floored n m → sizesRight n m ≡ true
-unfolding sizesRight
-floor-holds n m f =
-    sym (on-false _ (le-ltb n 1 (f .boxes .0)) (on-false _ (le-ltb 9 n (f .boxes .1))
-    (on-false _ (le-ltb m 1 (f .stations .0)) (on-false _ (le-ltb 16 m (f .stations .1)) refl))))
 
 -- refusal 4
 abbrev pub Printable : ℕ → Type 0
@@ -133,7 +113,7 @@ records-hold s r = sym (on-true _ (eq-eqb (afterLabel s % 8) 0 (r .whole)) (sym 
 pub record Passed (s : List ℕ) : Type 0 where
   pub sized : Sized s
   pub version : versionOf s ≡ 1
-  pub floored : Floored (boxesOf s) (stationsOf s)
+  pub floored : Sizes (boxesOf s) (stationsOf s)
   pub labelled : Labelled s
   pub recorded : Recorded s
 
@@ -148,7 +128,7 @@ accepted-passed s e =
     record {
       sized = size-means s (a .0);
       version = eqb-true (versionOf s) 1 (not-false _ (b .0));
-      floored = floor-means (boxesOf s) (stationsOf s) (not-false _ (c .0));
+      floored = sizes-mean (boxesOf s) (stationsOf s) (not-false _ (c .0));
       labelled = label-means s (d .0);
       recorded = records-mean s (f .0);
     }
@@ -157,5 +137,5 @@ pub passed-accepted : (s : List ℕ) → Passed s → fileRefusal s ≡ 0
 unfolding fileRefusal wrongVersion wrongFloor
 passed-accepted s p =
     sym (on-false _ (size-holds s (p .sized)) (on-false _ (ap not (eq-eqb (versionOf s) 1 (p .version)))
-    (on-false _ (ap not (floor-holds (boxesOf s) (stationsOf s) (p .floored)))
+    (on-false _ (ap not (sizes-hold (boxesOf s) (stationsOf s) (p .floored)))
     (on-false _ (label-holds s (p .labelled)) (on-false _ (records-hold s (p .recorded)) refl)))))

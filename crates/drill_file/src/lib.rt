@@ -3,7 +3,6 @@ ghost use mathlib.Core.Path.{_≡_};
 ghost use Prim.Native.Nat.{_+_, _*_};
 ghost use lib.ListN.{getD};
 ghost use Rattle.drill_file.specs.DrillFile.{recordsStart, afterLabel, wrongSize, wrongVersion, wrongFloor, wrongByte, wrongBytes, wrongLabel, wrongRecords, fileRefusal, headerOf, refusalIn, labelOf};
-ghost use Rattle.base.specs.Numbers.{sizesRight};
 
 // What the header says: the refusal, or n, m, where the records start and how many there are.
 pub enum Header {
@@ -78,30 +77,11 @@ fn wrong_version(file: &[u8]) -> bool
     byte_at(file, 2) != 1
 }
 
-// Whether a floor may have n boxes and m stations.
-fn sizes_right(n: u8, m: u8) -> bool
-    ensures { λ y. ⌜ y ≡ sizesRight n m ⌝ }
-{
-    if n < 1 {
-        return false;
-    }
-    if 9 < n {
-        return false;
-    }
-    if m < 1 {
-        return false;
-    }
-    if 16 < m {
-        return false;
-    }
-    true
-}
-
 // Refusal 3.
 fn wrong_floor(file: &[u8]) -> bool
     ensures { λ y. ⌜ y ≡ wrongFloor (now (file .entry)) ⌝ }
 {
-    !sizes_right(byte_at(file, 3), byte_at(file, 4))
+    !base::sizes_right(byte_at(file, 3), byte_at(file, 4))
 }
 
 fn wrong_byte(b: u8) -> bool

@@ -7,13 +7,14 @@ use native.Mathlib.Numerals.{towards-suc}
 use native.Mathlib.Omega.{arith}
 use lib.ListN.{length, getD, take, drop, drop-of-length-le}
 use lib.Seq.{drop-cons, drop-drop, take-add, take-all}
-use Rattle.firmware.specs.Bytes.{AllBytes, wordOf, bytesOf, wordAt, withWord}
+use Rattle.base.specs.Numbers.{word32}
+use Rattle.firmware.specs.Bytes.{AllBytes, bytesOf, wordAt, withWord}
 
 -- a number's four bytes spell it
-spelt : (x a b c p q r : ℕ) → a * 256 + p ≡ x → b * 256 + q ≡ a → c * 256 + r ≡ b → wordOf c r q p ≡ x
+spelt : (x a b c p q r : ℕ) → a * 256 + p ≡ x → b * 256 + q ≡ a → c * 256 + r ≡ b → word32 c r q p ≡ x
 spelt x a b c p q r e₁ e₂ e₃ = omega arith
 
-pub word-of-bytes : (x : ℕ) → x < 2 ^ 32 → wordOf (x / 16777216 % 256) (x / 65536 % 256) (x / 256 % 256) (x % 256) ≡ x
+pub word-of-bytes : (x : ℕ) → x < 2 ^ 32 → word32 (x / 16777216 % 256) (x / 65536 % 256) (x / 256 % 256) (x % 256) ≡ x
 word-of-bytes x g =
     let top : x / 16777216 % 256 ≡ x / 16777216 = omega arith in
     let e₂ : x / 65536 * 256 + x / 256 % 256 ≡ x / 256 = rw (div-div-eq-div-mul x 256 256) at (div-add-mod' (x / 256) 256) in
@@ -22,12 +23,12 @@ word-of-bytes x g =
 
 -- four bytes spell a number of 32 bits, and are its bytes
 bytes-of-word : (a b c d : ℕ) → a < 256 → b < 256 → c < 256 → d < 256
-    → (wordOf a b c d < 2 ^ 32) × (bytesOf (wordOf a b c d) ≡ a ∷ b ∷ c ∷ d ∷ [])
+    → (word32 a b c d < 2 ^ 32) × (bytesOf (word32 a b c d) ≡ a ∷ b ∷ c ∷ d ∷ [])
 bytes-of-word a b c d ga gb gc gd =
-    let e₀ : wordOf a b c d / 16777216 % 256 ≡ a = omega arith in
-    let e₁ : wordOf a b c d / 65536 % 256 ≡ b = omega arith in
-    let e₂ : wordOf a b c d / 256 % 256 ≡ c = omega arith in
-    let e₃ : wordOf a b c d % 256 ≡ d = omega arith in
+    let e₀ : word32 a b c d / 16777216 % 256 ≡ a = omega arith in
+    let e₁ : word32 a b c d / 65536 % 256 ≡ b = omega arith in
+    let e₂ : word32 a b c d / 256 % 256 ≡ c = omega arith in
+    let e₃ : word32 a b c d % 256 ≡ d = omega arith in
     (omega arith, cc)
 
 -- a number's bytes before bytes are bytes

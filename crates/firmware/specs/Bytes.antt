@@ -1,15 +1,12 @@
 -- "each big-endian": a number of 32 bits as four bytes, the highest first.
-use Prim.Native.Nat.{ℕ, _+_, _*_, _/_, _%_, _<_}
+use Prim.Native.Nat.{ℕ, _+_, _/_, _%_, _<_}
 use mathlib.Core.List.{List, [], _∷_, _++_}
 use lib.ListN.{length, getD, take, drop}
+use Rattle.base.specs.Numbers.{word32}
 
 -- a list of bytes: what a slice of `u8` holds
 pub record AllBytes (s : List ℕ) : Type 0 where
   pub below : (i : ℕ) → i < length s → getD s i 0 < 256
-
--- the number that four bytes spell
-abbrev pub wordOf : ℕ → ℕ → ℕ → ℕ → ℕ
-wordOf a b c d = ((a * 256 + b) * 256 + c) * 256 + d
 
 -- the four bytes of a number
 abbrev pub bytesOf : ℕ → List ℕ
@@ -17,7 +14,7 @@ bytesOf x = x / 16777216 % 256 ∷ x / 65536 % 256 ∷ x / 256 % 256 ∷ x % 256
 
 -- the number whose bytes stand from a place on
 unfoldable pub wordAt : List ℕ → ℕ → ℕ
-wordAt s at = wordOf (getD s at 0) (getD s (at + 1) 0) (getD s (at + 2) 0) (getD s (at + 3) 0)
+wordAt s at = word32 (getD s at 0) (getD s (at + 1) 0) (getD s (at + 2) 0) (getD s (at + 3) 0)
 
 -- the list with a number's bytes from a place on, all else as it was
 unfoldable pub withWord : List ℕ → ℕ → ℕ → List ℕ

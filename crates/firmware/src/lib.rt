@@ -6,22 +6,16 @@ use register::rmw_write;
 ghost use mathlib.Core.Path.{_≡_};
 ghost use Prim.Native.Nat.{_+_, _≤_};
 ghost use lib.ListN.{length};
-ghost use Rattle.firmware.specs.Bytes.{wordOf, wordAt, withWord};
+ghost use Rattle.firmware.specs.Bytes.{wordAt, withWord};
 ghost use Rattle.firmware.specs.Firmware.{decode, encode, replyOf, readAnswer, recordAfterRead, replyAfterRead, writeAnswer, recordAfterWrite};
 
 // ---- Numbers of 32 bits, big-endian
-
-fn word(a: u8, b: u8, c: u8, d: u8) -> u32
-    ensures { λ y. ⌜ y ≡ wordOf a b c d ⌝ }
-{
-    ((a as u32 * 256 + b as u32) * 256 + c as u32) * 256 + d as u32
-}
 
 fn get_u32(s: &[u8], at: usize) -> u32
     requires { ⌜ at + 4 ≤ length (now s) ⌝ }
     ensures { λ y. ⌜ y ≡ wordAt (now (s .entry)) at ⌝ }
 {
-    word(s[at], s[at + 1], s[at + 2], s[at + 3])
+    base::be32(s[at], s[at + 1], s[at + 2], s[at + 3])
 }
 
 fn put_u32(s: &mut [u8], at: usize, x: u32)

@@ -30,7 +30,8 @@ use Rattle.floor.specs.declared.Stepped.{Stepped}
 use Rattle.floor.specs.declared.NewFloor.{NewFloor}
 use Rattle.floor.specs.declared.Command.{Command}
 use Rattle.floor.specs.declared.Command.the-variants.{Begin, ServeRead, ServeWrite, DeliverRead, DeliverWrite, Stop, Leave, Malformed}
-use Rattle.floor.proofs.SoundLaws.{Sizes, sizes-mean, sound-means}
+use Rattle.base.proofs.SizeLaws.{Sizes, sizes-mean}
+use Rattle.floor.proofs.SoundLaws.{sound-means}
 use Rattle.floor.proofs.Standings.{clash}
 use Rattle.floor.proofs.Stores.{set-all, set-at}
 use Rattle.floor.proofs.Forms.{afterBegin}

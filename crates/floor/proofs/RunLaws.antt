@@ -1,5 +1,5 @@
 -- The loop of `run`: one record more, by the way that its step takes.
-use Prim.Native.Nat.{ℕ, suc, _+_, _-_, _/_, _<_, _≤_}
+use Prim.Native.Nat.{ℕ, suc, _+_, _-_, _*_, _/_, _<_, _≤_}
 use native.Mathlib.Omega.{arith}
 use native.Mathlib.Numerals.{add-one}
 use mathlib.Core.Path.{_≡_, refl, sym, ap, subst, _∙_}
@@ -18,6 +18,7 @@ use Rattle.floor.specs.Step.{isRefused, rowPlace, boxPlace, stationPlace
 use Rattle.base.specs.Records.{recordAt, recordsFrom}
 use Rattle.base.proofs.RecordLaws.{record-whole}
 use Rattle.floor.specs.Runs.{runFrom}
+use Rattle.floor.proofs.Forms.{partsAt}
 use Rattle.floor.proofs.StepLaws.{apply-refused, apply-accepted}
 use Rattle.floor.proofs.Keeps.{apply-keeps, refused-same, effect-said}
 use Rattle.floor.specs.declared.Floor.{Floor}
@@ -58,16 +59,14 @@ run-ends f l count k at o h =
     let e : count - k ≡ 0 = omega arith in
     subst (λ (m : ℕ). record { floor = f; accepted = k; last = o } ≡ runFrom k o f (recordsFrom m l at)) (sym e) refl
 
--- what the loop reads out of the floor at the places i, b and j, and the floor once it has stored there
-abbrev pub partsAt : Floor → ℕ → ℕ → ℕ → Parts
-partsAt f i b j = record { n = f .n; m = f .m; used = f .used; row = getD (f .rows) i row0; storage = getD (f .boxes) b box0; station = getD (f .stations) j station0 }
-
+-- the floor once the loop has stored parts at the places i, b and j
 abbrev pub storedAt : Floor → ℕ → ℕ → ℕ → Parts → Floor
 storedAt f i b j p = record { n = f .n; m = f .m; used = p .used; boxes = set (f .boxes) b (p .storage); stations = set (f .stations) j (p .station); rows = set (f .rows) i (p .row) }
 
--- one turn of the loop
-module _ (l : List ℕ) (count k at : ℕ) (h : k < count) (o : Outcome) (f : Floor) (s : Sound f) (c : Command) (ec : c ≡ commandOf (recordAt l at)) (a b₀ t i b j : ℕ)
-    (ea : a ≡ attemptIn (f .used) c) (ei : i ≡ placeIn 64 a) (eb₀ : b₀ ≡ boxIn c) (eb : b ≡ placeIn 9 b₀) (et : t ≡ stationIn (getD (f .rows) i row0 .station) c) (ej : j ≡ placeIn 16 t) where
+-- one turn of the loop: the record k, its command c, the places i, b and j that it names, and the parts p read there
+module _ (l : List ℕ) (count k : ℕ) (h : k < count) (o : Outcome) (f : Floor) (s : Sound f) (c : Command) (ec : c ≡ commandOf (recordAt l (8 * k))) (a b₀ t i b j : ℕ)
+    (ea : a ≡ attemptIn (f .used) c) (ei : i ≡ placeIn 64 a) (eb₀ : b₀ ≡ boxIn c) (eb : b ≡ placeIn 9 b₀) (et : t ≡ stationIn (getD (f .rows) i row0 .station) c) (ej : j ≡ placeIn 16 t)
+    (p : Parts) (ep : p ≡ partsAt f i b j) where
   row-named : i ≡ rowPlace f c
   row-named = ei ∙ ap (placeIn 64) ea
 
@@ -77,33 +76,36 @@ module _ (l : List ℕ) (count k at : ℕ) (h : k < count) (o : Outcome) (f : Fl
   station-named : j ≡ stationPlace f c
   station-named = ej ∙ ap (placeIn 16) (et ∙ ap (λ (x : ℕ). stationIn (getD (f .rows) x row0 .station) c) row-named)
 
-  looked : partsAt f i b j ≡ look f c
+  looked : p ≡ look f c
   looked =
-      ap (λ (x : ℕ). partsAt f x b j) row-named ∙ ap (λ (x : ℕ). partsAt f (rowPlace f c) x j) box-named
+      ep ∙ ap (λ (x : ℕ). partsAt f x b j) row-named ∙ ap (λ (x : ℕ). partsAt f (rowPlace f c) x j) box-named
       ∙ ap (λ (x : ℕ). partsAt f (rowPlace f c) (boxPlace c) x) station-named
 
-  stored : (p : Parts) → storedAt f i b j p ≡ put f c p
-  stored p =
-      ap (λ (x : ℕ). storedAt f x b j p) row-named ∙ ap (λ (x : ℕ). storedAt f (rowPlace f c) x j p) box-named
-      ∙ ap (λ (x : ℕ). storedAt f (rowPlace f c) (boxPlace c) x p) station-named
+  stored : (q : Parts) → storedAt f i b j q ≡ put f c q
+  stored q =
+      ap (λ (x : ℕ). storedAt f x b j q) row-named ∙ ap (λ (x : ℕ). storedAt f (rowPlace f c) x j q) box-named
+      ∙ ap (λ (x : ℕ). storedAt f (rowPlace f c) (boxPlace c) x q) station-named
 
   left : count - k ≡ suc (count - (k + 1))
   left = omega arith
 
-  pub turn-refused : (e : ℕ) → e ≡ refusalIn (partsAt f i b j) c → (e ≡ 0 → ⊥) → record { floor = f; accepted = k; last = Refused e } ≡ runFrom k o f (recordsFrom (count - k) l at)
+  pub turn-boxes : p .n ≤ 9
+  turn-boxes = subst (λ (q : Parts). q .n ≤ 9) (sym ep) (s .box-most)
+
+  pub turn-refused : (e : ℕ) → e ≡ refusalIn p c → (e ≡ 0 → ⊥) → record { floor = f; accepted = k; last = Refused e } ≡ runFrom k o f (recordsFrom (count - k) l (8 * k))
   unfolding stepOf
   turn-refused e r z =
-      let r′ : e ≡ refusalIn (look f c) c = r ∙ ap (λ (p : Parts). refusalIn p c) looked in
+      let r′ : e ≡ refusalIn (look f c) c = r ∙ ap (λ (q : Parts). refusalIn q c) looked in
       rw left
-      (run-stops (count - (k + 1)) k o f l at (refused f e)
+      (run-stops (count - (k + 1)) k o f l (8 * k) (refused f e)
       (ap (applyOf f) (sym ec) ∙ apply-refused f c s (λ q. z (r′ ∙ q)) ∙ ap (refused f) (sym r′)) refl)
 
-  module _ (e : ℕ) (r : e ≡ refusalIn (partsAt f i b j) c) (z : e ≡ 0) (y : Changed) (ey : y ≡ effectIn (partsAt f i b j) c) where
+  module _ (e : ℕ) (r : e ≡ refusalIn p c) (z : e ≡ 0) (y : Changed) (ey : y ≡ effectIn p c) where
     none : refusalIn (look f c) c ≡ 0
-    none = sym (r ∙ ap (λ (p : Parts). refusalIn p c) looked) ∙ z
+    none = sym (r ∙ ap (λ (q : Parts). refusalIn q c) looked) ∙ z
 
     y-is : y ≡ effectIn (look f c) c
-    y-is = ey ∙ ap (λ (p : Parts). effectIn p c) looked
+    y-is = ey ∙ ap (λ (q : Parts). effectIn q c) looked
 
     applied : applyOf f c ≡ record { floor = storedAt f i b j (y .parts); outcome = y .outcome }
     applied =
@@ -113,11 +115,12 @@ module _ (l : List ℕ) (count k at : ℕ) (h : k < count) (o : Outcome) (f : Fl
     pub turn-sound : Sound (storedAt f i b j (y .parts))
     turn-sound = subst (λ (x : Stepped). Sound (x .floor)) applied (apply-keeps f c s)
 
-    pub turn-on : runFrom (k + 1) (y .outcome) (storedAt f i b j (y .parts)) (recordsFrom (count - (k + 1)) l (at + 8)) ≡ runFrom k o f (recordsFrom (count - k) l at)
+    pub turn-on : runFrom (k + 1) (y .outcome) (storedAt f i b j (y .parts)) (recordsFrom (count - (k + 1)) l (8 * (k + 1))) ≡ runFrom k o f (recordsFrom (count - k) l (8 * k))
     unfolding stepOf
     turn-on =
-        rw left
-        (run-goes-on (count - (k + 1)) k o f l at (record { floor = storedAt f i b j (y .parts); outcome = y .outcome })
+        let next : 8 * (k + 1) ≡ 8 * k + 8 = omega arith in
+        rw (left, next)
+        (run-goes-on (count - (k + 1)) k o f l (8 * k) (record { floor = storedAt f i b j (y .parts); outcome = y .outcome })
         (ap (applyOf f) (sym ec) ∙ applied) (ap (λ (x : Changed). isRefused (x .outcome)) y-is ∙ effect-said (look f c) c none))
 
 -- a run of one record is its step

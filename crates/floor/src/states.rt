@@ -1,9 +1,8 @@
-// Tests of a station's state, of a request's stage and of the floor's numbers.
+// Tests of a station's state and of where a request stands.
 ghost use mathlib.Core.Path.{_≡_};
 ghost use mathlib.Core.Bool.{false};
 ghost use Prim.Native.Nat.{_<_};
 ghost use Rattle.base.specs.Choice.{if_then_else_};
-ghost use Rattle.base.specs.Numbers.{sizesRight};
 ghost use Rattle.floor.specs.State.{isGone, isBusy, isReading, isWriting, standing, isWaiting, isOnTheWay};
 use crate::Phase;
 use crate::Stage;
@@ -15,25 +14,6 @@ pub fn and(x: bool, y: bool) -> bool
         return y;
     }
     false
-}
-
-// Refusal 3 does not apply.
-pub fn sizes_right(n: u8, m: u8) -> bool
-    ensures { λ r. ⌜ r ≡ sizesRight n m ⌝ }
-{
-    if n < 1 {
-        return false;
-    }
-    if 9 < n {
-        return false;
-    }
-    if m < 1 {
-        return false;
-    }
-    if 16 < m {
-        return false;
-    }
-    true
 }
 
 pub fn gone(s: Phase) -> bool

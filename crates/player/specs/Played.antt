@@ -3,6 +3,7 @@ use Prim.Native.Nat.{ℕ}
 use mathlib.Core.List.{List}
 use lib.Dec.{eqb}
 use Rattle.base.specs.Choice.{if_then_else_}
+use Rattle.base.specs.Numbers.{rankOf}
 use Rattle.floor.specs.Floors.{emptyFloor, newFloorOf}
 use Rattle.floor.specs.Step.{numberOf}
 use Rattle.floor.specs.Runs.{runOf}
@@ -19,3 +20,7 @@ unfoldable pub playedOf : List ℕ → Played
 playedOf s =
     if eqb (fileRefusal s) 0 then ofRun (runOf (newFloorOf (boxesOf s) (stationsOf s) .floor) (recordsOf s))
     else record { floor = emptyFloor 1 1; accepted = 0; refusal = fileRefusal s }
+
+-- "rank of its last attempt (0 if none)", from the station's last round and its number
+unfoldable pub lastRank : ℕ → ℕ → ℕ
+lastRank last s = if eqb last 0 then 0 else rankOf last s

@@ -6,7 +6,7 @@ ghost use Rattle.base.specs.Records.{recordsFrom};
 ghost use Rattle.floor.specs.Floors.{newFloorOf};
 ghost use Rattle.floor.specs.Step.{numberOf};
 ghost use Rattle.floor.specs.Runs.{runOf};
-ghost use Rattle.player.specs.Played.{ofRun, playedOf};
+ghost use Rattle.player.specs.Played.{ofRun, playedOf, lastRank};
 use drill_file::Header;
 use floor::Floor;
 use floor::Outcome;
@@ -69,4 +69,14 @@ pub fn play(file: &[u8]) -> Played
         }
         Header::Accepted { n, m, start, .. } => play_records(n, m, &file[start..]),
     }
+}
+
+// The rank of the last attempt of a station, from its last round and its number; 0 if it has none.
+pub fn last_rank(last: u16, station: u8) -> u32
+    ensures { λ r. ⌜ r ≡ lastRank last station ⌝ }
+{
+    if last == 0 {
+        return 0;
+    }
+    (last as u32) * 16 + (station as u32)
 }

@@ -16,4 +16,4 @@ get-u32-spec =
     (λ c. search needs)
     (λ c. search needs)
     (λ c κs. search needs)
-    (λ c. c .word .ensures))
+    (λ c. c .be32 .ensures))

@@ -1,9 +1,9 @@
 use mathlib.Core.Path.{refl}
 use Rattle.base.proofs.Choices.{on-true, on-false}
 use Rattle.base.proofs.Tests.{tests}
 use Rattle.base.specs.Numbers.{sizesRight}
-use Rattle.floor.proofs.states.sizes_right.Statement.{statement}
-use Rattle.floor.proofs.states.sizes_right.Tie as tie
+use Rattle.base.proofs.sizes_right.Statement.{statement}
+use Rattle.base.proofs.sizes_right.Tie as tie
 
 pub sizes-right-spec : {M : Type 1} → statement M
 unfolding sizesRight
