@@ -87,7 +87,7 @@ pub fn command_at(s: &[u8], at: usize) -> Command
 
 // The record of a command; that of `Malformed` is zeros.
 pub fn encode(c: Command) -> [u8; 8]
-    ensures { λ r. ⌜ (r ≡ encodeOf c) × (commandOf r ≡ c) ⌝ }
+    ensures { λ r. ⌜ r ≡ encodeOf c ⌝ }
 {
     match c {
         Command::Begin(s, round, v) => [

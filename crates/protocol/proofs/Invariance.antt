@@ -1,5 +1,5 @@
 -- The start has the invariant, each step keeps it, and it settles what a majority took.
-use mathlib.Core.Path.{_≡_, refl, sym, subst}
+use mathlib.Core.Path.{_≡_, sym, subst}
 use mathlib.Core.Logic.{_⊎_, inl, inr}
 use Prim.Native.Nat.{ℕ, _≤_, _<_}
 use native.Mathlib.Decide.{decLe}
@@ -8,7 +8,7 @@ use native.Mathlib.Omega.{arith}
 use Rattle.protocol.specs.View.{View, Chosen, Answer, Returns, kept, stored, before, now, MayIssue, Transition, Start}
 use Rattle.protocol.specs.Invariant.{CannotTake, Safe, unchoosable, follows, Inv}
 use Rattle.protocol.specs.Claims.{Settled, Agreement}
-use Rattle.protocol.proofs.QuorumLaws.{at-least-map, majority-map, majority-meet}
+use Rattle.protocol.proofs.QuorumLaws.{at-least-map, at-least-meet, majority-map}
 
 module _ {A : Type 0} (n : ℕ) (_⊑_ : A → A → Type 0) where
   infix 20 _⊑_
@@ -39,7 +39,7 @@ module _ {A : Type 0} (n : ℕ) (_⊑_ : A → A → Type 0) where
     -- .. so the read returns at least the rank of each lower-ranked write that a majority takes, before or after
     pub returns-see : {s : ℕ} {u : A} → Chosen n σ s u → s < r → s ≤ w
     returns-see {s} c h =
-        let m = majority-meet (q .majority) (c .taken) in
+        let m = at-least-meet (omega arith) (q .majority) (c .taken) in
         let a = m .2 in
         omega (arith, i .sees r (m .0) (a .rank) (a .value) (a .read) s h (m .3), a .at-most)
 
@@ -60,10 +60,10 @@ module _ {A : Type 0} (n : ℕ) (_⊑_ : A → A → Type 0) where
 
           onto : 0 < q .rank → Safe n _⊑_ σ s (q .value) → Safe n _⊑_ σ s v
           onto k (unchoosable d) = unchoosable d
-          onto k (follows {u = y} e f) = follows e (trans y (q .value) v f (q .follows k))
+          onto k (follows {u = y} e f) = follows e (trans y (q .value) v f (q .follows (omega arith)))
 
           up-to : 0 < q .rank → (s ≡ q .rank) ⊎ (s < q .rank) → Safe n _⊑_ σ s v
-          up-to k (inl e) = follows (subst (λ (j : ℕ). σ .Issued j (q .value)) (sym e) (issued k)) (q .follows k)
+          up-to k (inl e) = follows (subst (λ (j : ℕ). σ .Issued j (q .value)) (sym e) (issued k)) (q .follows (omega arith))
           up-to k (inr l) = onto k (i .safe (q .rank) (q .value) (issued k) s p l)
 
     module _ {σ τ : View A} (m : Transition n _⊑_ σ τ) (i : Inv n _⊑_ σ) where
@@ -90,13 +90,13 @@ module _ {A : Type 0} (n : ℕ) (_⊑_ : A → A → Type 0) where
       taken-kept r b t = elim (m .take r b t) [ before o ↦ omega (arith, i .taken r b o, m .writes-up b) | now c e f ↦ omega arith ]
 
       source-kept : (r b w : ℕ) (x : A) → τ .Read r b w x → 0 < w → τ .Issued w x
-      source-kept r b w x d p = elim (m .learn r b w x d) [
+      source-kept r b w x d p = elim (m .answer r b w x d) [
         | before o ↦ m .issued-kept w x (i .source r b w x o p)
         | now c e f ↦ rw (e, f) (held-kept b (omega arith))
       ]
 
       sees-kept : (r b w : ℕ) (x : A) → τ .Read r b w x → (s : ℕ) → s < r → τ .Taken s b → s ≤ w
-      sees-kept r b w x d s h t = elim (m .learn r b w x d) [
+      sees-kept r b w x d s h t = elim (m .answer r b w x d) [
         | before o ↦ elim (m .take s b t) [ before y ↦ i .sees r b w x o s h y | now c e f ↦ omega (arith, i .promised r b w x o) ]
         | now c e f ↦ omega (arith, taken-kept s b t)
       ]
@@ -107,7 +107,7 @@ module _ {A : Type 0} (n : ℕ) (_⊑_ : A → A → Type 0) where
         unique = unique-kept;
         held = held-kept;
         taken = taken-kept;
-        promised = λ r b w x d. elim (m .learn r b w x d) [ before o ↦ omega (arith, i .promised r b w x o, m .reads-up b) | now c e f ↦ c ];
+        promised = λ r b w x d. elim (m .answer r b w x d) [ before o ↦ omega (arith, i .promised r b w x o, m .reads-up b) | now c e f ↦ c ];
         source = source-kept;
         sees = sees-kept;
         safe = λ r v d s p h. safe-kept (elim (m .issue r v d) [ before o ↦ i .safe r v o s p h | now q f ↦ issue-safe i q s p h ]);
@@ -121,9 +121,9 @@ module _ {A : Type 0} (n : ℕ) (_⊑_ : A → A → Type 0) where
   module _ {σ : View A} (i : Inv n _⊑_ σ) where
     pub settled : Settled n _⊑_ σ
     settled s r u v c d h =
-        let m = majority-meet (c .taken) (c .taken) in
-        elim (i .safe r v d s (i .taken s (m .0) (m .2) .0) h) [
-          | unchoosable k ↦ (let j = majority-meet k (c .taken) in absurd (j .2 .untaken (j .3)))
+        let m = at-least-meet (omega arith) (c .taken) (c .taken) in
+        elim (i .safe r v d s (i .taken s (m .0) (m .2) .0) (omega arith)) [
+          | unchoosable k ↦ (let j = at-least-meet (omega arith) k (c .taken) in absurd (j .2 .untaken (j .3)))
           | follows {u = y} e f ↦ subst (λ (z : A). z ⊑ v) (i .unique s y u e (c .issued)) f
         ]
 

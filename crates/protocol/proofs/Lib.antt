@@ -1,3 +1,4 @@
+pub mod Examples
 pub mod Instances
 pub mod Invariance
 pub mod MaskLaws

@@ -1,14 +1,15 @@
--- Each step of the machine is a step of the view, so every run has the invariant; and a write refused was beaten.
+-- Each step of the machine is a step of the view, so every run has the invariant; and a write refused was outranked.
 use mathlib.Core.Path.{_≡_, refl, sym, ap, subst, _∙_}
-use mathlib.Core.Logic.{_⊎_, inl, inr}
+use mathlib.Core.Logic.{inl, inr}
 use mathlib.Core.List.{List, _∷_, List·Memᴰ, List·Memᴰ·head, List·Memᴰ·tail, List·Memᴰ·cases-cons, List·Memᴰ·not-nil}
 use Prim.Native.Nat.{ℕ, _≤_, _<_}
 use native.Mathlib.Decide.{decLe}
 use native.Mathlib.Nat.{eq-or-lt-of-le}
 use native.Mathlib.Omega.{arith}
-use Rattle.protocol.specs.View.{Stored, kept, stored, Took, Learnt, Wrote, MayIssue, Transition}
+use Rattle.protocol.specs.View.{Stored, kept, stored, Took, Answered, Wrote, MayIssue, Transition}
 use Rattle.protocol.specs.Invariant.{Inv}
-use Rattle.protocol.specs.Trace.{Box, readBox, writeBox, Event, read, issued, took, refused, there, other, view, Served, by-read, by-write, Beaten, beaten-by, Step, serve-read, issue, take, refuse, other-event, Run, new, next}
+use Rattle.protocol.specs.Trace.{Box, readBox, writeBox, Event, read, issued, took, refused, there, other, view, Served, by-read, by-write, Outranked, Step, serve-read, issue, take, refuse, other-event, Run, new, next}
+use Rattle.protocol.specs.Claims.{Persistent}
 use Rattle.protocol.proofs.Invariance.{start-inv, transition-inv}
 
 module _ {A : Type 0} where
@@ -32,8 +33,8 @@ module _ {A N : Type 0} where
   served-more e (by-read m) = by-read (List·Memᴰ·tail m)
   served-more e (by-write m) = by-write (List·Memᴰ·tail m)
 
-  pub beaten-more : {l : List (Event A N)} {r b : ℕ} (e : Event A N) → Beaten l r b → Beaten (e ∷ l) r b
-  beaten-more e (beaten-by h s) = beaten-by h (served-more e s)
+  pub outranked-more : {l : List (Event A N)} {r b : ℕ} (e : Event A N) → Outranked l r b → Outranked (e ∷ l) r b
+  outranked-more e k = record { rank = k .rank; higher = k .higher; served = served-more e (k .served) }
 
   -- the ranks that boxes hold are of attempts served there
   pub record Known (x : ℕ → Box A) (l : List (Event A N)) : Type 0 where
@@ -63,11 +64,9 @@ module _ {A N : Type 0} where
       took-now : {r b : ℕ} → Step n _⊑_ Offered x l y (took r b) → (x b .readRank ≤ r) × (x b .writeRank < r) × (r ≤ y b .writeRank)
       took-now (take {b = b} m h k f) = elim (f b) [ there p q ↦ omega (arith, ap writeRankOf q) | other p q ↦ absurd (p refl) ]
 
-      pub issued-now : {r : ℕ} {v : A} → Step n _⊑_ Offered x l y (issued r v) → MayIssue n _⊑_ (view Offered x l) r v × ((u : A) → List·Memᴰ (issued r u) l → u ≡ v)
-      issued-now (issue _ q f) = (q, f)
-
-      refused-now : {r b : ℕ} → Step n _⊑_ Offered x l y (refused r b) → (r < x b .readRank) ⊎ (r ≤ x b .writeRank)
-      refused-now (refuse _ h) = h
+      pub issued-now : {r : ℕ} {v : A} → Step n _⊑_ Offered x l y (issued r v)
+          → MayIssue n _⊑_ (view Offered x l) r v × ((u : A) → List·Memᴰ (issued r u) (issued r v ∷ l) → u ≡ v)
+      issued-now (issue _ q f) = (q, λ u m. elim (List·Memᴰ·cases-cons m) [ inl p ↦ cc | inr o ↦ cc (f u o) ])
 
       step-as : {d e : Event A N} → d ≡ e → Step n _⊑_ Offered x l y e → Step n _⊑_ Offered x l y d
       step-as q s = subst (λ (e : Event A N). Step n _⊑_ Offered x l y e) (sym q) s
@@ -90,14 +89,12 @@ module _ {A N : Type 0} where
         took-cases : (r b : ℕ) → List·Memᴰ (took r b) (e ∷ l) → Took (view Offered x l) (view Offered y (e ∷ l)) r b
         took-cases r b t = elim (List·Memᴰ·cases-cons t) [ inl q ↦ (let k = took-now (step-as q s) in Took.now (k .0) (k .1) (k .2)) | inr o ↦ Took.before o ]
 
-        read-cases : (r b w : ℕ) (v : A) → List·Memᴰ (read r b w v) (e ∷ l) → Learnt (view Offered x l) (view Offered y (e ∷ l)) r b w v
-        read-cases r b w v t = elim (List·Memᴰ·cases-cons t) [ inl q ↦ (let k = read-now (step-as q s) in Learnt.now (k .0) (k .1) (k .2)) | inr o ↦ Learnt.before o ]
+        read-cases : (r b w : ℕ) (v : A) → List·Memᴰ (read r b w v) (e ∷ l) → Answered (view Offered x l) (view Offered y (e ∷ l)) r b w v
+        read-cases r b w v t = elim (List·Memᴰ·cases-cons t) [ inl q ↦ (let k = read-now (step-as q s) in Answered.now (k .0) (k .1) (k .2)) | inr o ↦ Answered.before o ]
 
         issued-cases : (r : ℕ) (v : A) → List·Memᴰ (issued r v) (e ∷ l) → Wrote n _⊑_ (view Offered x l) (view Offered y (e ∷ l)) r v
         issued-cases r v t = elim (List·Memᴰ·cases-cons t) [
-          | inl q ↦ (
-              let k = issued-now (step-as q s) in
-              Wrote.now (k .0) (λ u m. elim (List·Memᴰ·cases-cons m) [ inl p ↦ cc | inr o ↦ k .1 u o ]))
+          | inl q ↦ (let k = issued-now (step-as q s) in Wrote.now (k .0) (λ u m. k .1 u (subst (List·Memᴰ (issued r u)) (ap (λ (d : Event A N). d ∷ l) (sym q)) m)))
           | inr o ↦ Wrote.before o
         ]
 
@@ -126,14 +123,14 @@ module _ {A N : Type 0} where
             writer : {t : ℕ} (j : ℕ) → t ≡ x j .writeRank → 0 < t → List·Memᴰ (took t j) (e ∷ l)
             writer j q p = List·Memᴰ·tail {xs = l} (rw q (k .writers j (omega arith)))
 
-        module _ (more : (d : Event A N) (k : List (Event A N)) (v : A) → Offered k v → Offered (d ∷ k) v) where
+        module _ (more : Persistent Offered) where
           pub step-transition : Transition n _⊑_ (view Offered x l) (view Offered y (e ∷ l))
           step-transition = record {
             reads-up = λ b. up b .0;
             writes-up = λ b. up b .1;
             store = store-now;
             take = took-cases;
-            learn = read-cases;
+            answer = read-cases;
             issue = issued-cases;
             issued-kept = λ r v t. List·Memᴰ·tail t;
             taken-kept = λ r b t. List·Memᴰ·tail t;
@@ -141,9 +138,7 @@ module _ {A N : Type 0} where
           }
 
     -- every run has the invariant
-    module _
-        (trans : (u v w : A) → u ⊑ v → v ⊑ w → u ⊑ w)
-        (more : (d : Event A N) (k : List (Event A N)) (v : A) → Offered k v → Offered (d ∷ k) v) where
+    module _ (trans : (u v w : A) → u ⊑ v → v ⊑ w → u ⊑ w) (more : Persistent Offered) where
       pub run-inv : {x : ℕ → Box A} {l : List (Event A N)} → Run n _⊑_ Offered x l → Inv n _⊑_ (view Offered x l)
       run-inv (new p q) = start-inv n _⊑_ (record {
         unwritten = q;
@@ -157,21 +152,21 @@ module _ {A N : Type 0} where
     run-known (new p q) = record { readers = λ b h. absurd (omega (arith, p b)); writers = λ b h. absurd (omega (arith, q b)) }
     run-known (next k s) = known-step s (run-known k)
 
-    -- a write that a box refuses, and did not take, was beaten
-    pub refused-beaten : {x y : ℕ → Box A} {l : List (Event A N)} {r b : ℕ} → Known x l → 0 < r → Step n _⊑_ Offered x l y (refused r b)
-        → ¬ List·Memᴰ (took r b) l → Beaten l r b
-    refused-beaten {b = b} k p s f = elim (refused-now s) [
-      | inl h ↦ beaten-by h (k .readers b (omega arith))
+    -- a write that a box refuses, and did not take, was outranked
+    pub refused-outranked : {x y : ℕ → Box A} {l : List (Event A N)} {r b : ℕ} → Known x l → 0 < r → Step n _⊑_ Offered x l y (refused r b)
+        → ¬ List·Memᴰ (took r b) l → Outranked l r b
+    refused-outranked {x} {b = b} k p (refuse _ c) f = elim c [
+      | inl h ↦ record { rank = x b .readRank; higher = omega arith; served = k .readers b (omega arith) }
       | inr h ↦ elim (eq-or-lt-of-le h) [
         | inl z ↦ absurd (f (rw z (k .writers b (omega arith))))
-        | inr o ↦ beaten-by o (by-write (k .writers b (omega arith)))
+        | inr o ↦ record { rank = x b .writeRank; higher = omega arith; served = by-write (k .writers b (omega arith)) }
       ]
     ]
 
-    pub beaten : {x : ℕ → Box A} {l : List (Event A N)} → Run n _⊑_ Offered x l → (r b : ℕ) → 0 < r → List·Memᴰ (refused r b) l
-        → ¬ List·Memᴰ (took r b) l → Beaten l r b
-    beaten (new _ _) r b p m f = absurd (List·Memᴰ·not-nil m)
-    beaten (next {e = e} k s) r b p m f = beaten-more e (elim (List·Memᴰ·cases-cons m) [
-      | inl q ↦ refused-beaten (run-known k) p (step-as q s) (λ t. f (List·Memᴰ·tail t))
-      | inr o ↦ beaten k r b p o (λ t. f (List·Memᴰ·tail t))
+    pub outranked : {x : ℕ → Box A} {l : List (Event A N)} → Run n _⊑_ Offered x l → (r b : ℕ) → 0 < r → List·Memᴰ (refused r b) l
+        → ¬ List·Memᴰ (took r b) l → Outranked l r b
+    outranked (new _ _) r b p m f = absurd (List·Memᴰ·not-nil m)
+    outranked (next {e = e} k s) r b p m f = outranked-more e (elim (List·Memᴰ·cases-cons m) [
+      | inl q ↦ refused-outranked (run-known k) p (step-as q s) (λ t. f (List·Memᴰ·tail t))
+      | inr o ↦ outranked k r b p o (λ t. f (List·Memᴰ·tail t))
     ])

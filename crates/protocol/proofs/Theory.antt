@@ -2,12 +2,12 @@
 use Prim.Native.Nat.{ℕ}
 use Rattle.protocol.specs.Claims.{Quorums, Masks, Preorder, Invariance, Theory}
 use Rattle.protocol.proofs.QuorumLaws.{more-than-half, majority-of, majority-meet}
-use Rattle.protocol.proofs.MaskLaws.{bit-zero, bit-same, bit-other, count-bits, count-more, count-present, count-past, count-agree, setBit-fits, mask-majority}
+use Rattle.protocol.proofs.MaskLaws.{bit-zero, bit-same, bit-other, count-bits, count-more, count-present, count-past, count-at-most, count-agree, setBit-fits, mask-majority}
 use Rattle.protocol.proofs.Invariance.{start-inv, transition-inv, chosen-kept, settled, agreement, returns-issued, returns-see, issue-offered}
-use Rattle.protocol.proofs.Runs.{run-inv, run-known, issued-now, refused-beaten, beaten}
+use Rattle.protocol.proofs.Runs.{step-transition, run-inv, run-known, issued-now, refused-outranked, outranked}
 
 pub quorums : Quorums
-quorums = record { half = more-than-half; enough = λ n P s. majority-of s; shared = λ n P Q. majority-meet }
+quorums = record { more-than-half = more-than-half; enough = λ n P s. majority-of s; shared = λ n P Q. majority-meet }
 
 pub masks : Masks
 masks = record {
@@ -18,6 +18,7 @@ masks = record {
   more = count-more;
   present = count-present;
   past = count-past;
+  bounded = count-at-most;
   agree = count-agree;
   fits = setBit-fits;
   enough = λ P m n. mask-majority m n;
@@ -34,10 +35,12 @@ invariance n ⊑ o = record {
 
 pub theory : Theory
 theory A N n ⊑ Offered o more x l k = let i = run-inv n ⊑ Offered (o .transitive) more k in record {
+  invariant = i;
+  transition = λ y e s. step-transition n ⊑ Offered s more;
   answer-issued = i .source;
   answer-sees = λ r b w v m s t h. i .sees r b w v m s h t;
-  beaten = beaten n ⊑ Offered k;
-  beaten-before = λ y r b. refused-beaten n ⊑ Offered (run-known n ⊑ Offered k);
+  outranked = outranked n ⊑ Offered k;
+  outranked-before = λ y r b. refused-outranked n ⊑ Offered (run-known n ⊑ Offered k);
   returned-issued = λ r w v. returns-issued n ⊑ i;
   returned-sees = λ r w v q s u. returns-see n ⊑ i q;
   settled = settled n ⊑ i;

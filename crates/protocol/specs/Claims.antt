@@ -1,4 +1,5 @@
--- What is claimed. The proofs are `quorums`, `masks`, `invariance` and `theory` in proofs/Theory.
+-- What is claimed; lemmas and theorems are the paper's (document 003). The proofs are `quorums`, `masks`, `invariance` and
+-- `theory` in proofs/Theory.
 use mathlib.Core.Path.{_≡_}
 use mathlib.Core.Logic.{_↔_}
 use mathlib.Core.Bool.{Bool, true, false}
@@ -6,15 +7,15 @@ use mathlib.Core.List.{List, _∷_, List·Memᴰ}
 use Prim.Native.Nat.{ℕ, _+_, _*_, _^_, _≤_, _<_}
 use Rattle.base.specs.Numbers.{quorum}
 use Rattle.protocol.specs.Mask.{bit, setBit, countBelow}
-use Rattle.protocol.specs.Quorum.{count, AtLeast, Majority}
+use Rattle.protocol.specs.Quorum.{count, Majority}
 use Rattle.protocol.specs.View.{View, Chosen, Returns, Transition, Start}
 use Rattle.protocol.specs.Invariant.{Inv}
-use Rattle.protocol.specs.Trace.{Box, Event, read, issued, took, refused, view, Beaten, Step, Run}
+use Rattle.protocol.specs.Trace.{Box, Event, read, issued, took, refused, view, Outranked, Step, Run}
 
 -- Sets of boxes.
 pub record Quorums : Type 1 where
   -- q boxes are more than half of n, and fewer are not
-  pub half : (n k : ℕ) → quorum n ≤ k ↔ n < 2 * k
+  pub more-than-half : (n k : ℕ) → quorum n ≤ k ↔ n < 2 * k
   -- a set of q boxes, each of which has P, is a majority that has P
   pub enough : (n : ℕ) (P : ℕ → Type 0) (s : ℕ → Bool) → quorum n ≤ count s n → ((b : ℕ) → b < n → s b ≡ true → P b) → Majority n P
   -- two majorities of the same boxes share a box
@@ -22,6 +23,7 @@ pub record Quorums : Type 1 where
 
 -- Sets of boxes as masks.
 pub record Masks : Type 1 where
+  -- the mask 0 is the empty set
   pub empty : (b : ℕ) → bit 0 b ≡ false
   -- the box added is in the set, and the others are as before
   pub same : (m b : ℕ) → bit (setBit m b) b ≡ true
@@ -32,7 +34,8 @@ pub record Masks : Type 1 where
   pub more : (m b n : ℕ) → b < n → bit m b ≡ false → countBelow (setBit m b) n ≡ countBelow m n + 1
   pub present : (m b n : ℕ) → bit m b ≡ true → countBelow (setBit m b) n ≡ countBelow m n
   pub past : (m b n : ℕ) → n ≤ b → countBelow (setBit m b) n ≡ countBelow m n
-  -- masks that agree below n count alike
+  -- so no more than n are counted, and masks that agree below n count alike
+  pub bounded : (m n : ℕ) → countBelow m n ≤ n
   pub agree : (m k n : ℕ) → ((b : ℕ) → b < n → bit m b ≡ bit k b) → countBelow m n ≡ countBelow k n
   -- a mask of k digits stays one where a box below k is added: a u16 where k is 16
   pub fits : (k m b : ℕ) → m < 2 ^ k → b < k → setBit m b < 2 ^ k
@@ -71,26 +74,29 @@ module _ {A : Type 0} (n : ℕ) (_⊑_ : A → A → Type 0) where
 module _ {A N : Type 0} (n : ℕ) (_⊑_ : A → A → Type 0) (Offered : List (Event A N) → A → Type 0) (x : ℕ → Box A) (l : List (Event A N)) where
   -- What holds of the boxes x and the history l of a run.
   pub record Claims : Type 0 where
+    -- the invariant holds, and whatever happens next is a step that keeps it
+    pub invariant : Inv n _⊑_ (view Offered x l)
+    pub transition : (y : ℕ → Box A) (e : Event A N) → Step n _⊑_ Offered x l y e → Transition n _⊑_ (view Offered x l) (view Offered y (e ∷ l))
     -- Lemma 2, Safety of one register: an answer above the start rank was issued, and it sees each lower-ranked write that the box
-    -- takes
+    -- takes, earlier or later
     pub answer-issued : (r b w : ℕ) (v : A) → List·Memᴰ (read r b w v) l → 0 < w → List·Memᴰ (issued w v) l
     pub answer-sees : (r b w : ℕ) (v : A) → List·Memᴰ (read r b w v) l → (s : ℕ) → List·Memᴰ (took s b) l → s < r → s ≤ w
-    -- Lemmas 3 and 6, Non-Triviality: a write that a box refused and did not take was beaten by a higher rank served at that box;
-    -- it was so before the write was refused
-    pub beaten : (r b : ℕ) → 0 < r → List·Memᴰ (refused r b) l → ¬ List·Memᴰ (took r b) l → Beaten l r b
-    pub beaten-before : (y : ℕ → Box A) (r b : ℕ) → 0 < r → Step n _⊑_ Offered x l y (refused r b) → ¬ List·Memᴰ (took r b) l → Beaten l r b
+    -- Lemmas 3 and 6, Non-Triviality: a write that a box refused and did not take was outranked at that box, and before it was
+    -- refused
+    pub outranked : (r b : ℕ) → 0 < r → List·Memᴰ (refused r b) l → ¬ List·Memᴰ (took r b) l → Outranked l r b
+    pub outranked-before : (y : ℕ → Box A) (r b : ℕ) → 0 < r → Step n _⊑_ Offered x l y (refused r b) → ¬ List·Memᴰ (took r b) l → Outranked l r b
     -- Lemma 5, Safety over a majority: what a read returns above the start rank was issued, and it sees each lower-ranked write that
-    -- a majority takes
+    -- a majority takes, earlier or later
     pub returned-issued : (r w : ℕ) (v : A) → Returns n (view Offered x l) r w v → 0 < w → List·Memᴰ (issued w v) l
     pub returned-sees : (r w : ℕ) (v : A) → Returns n (view Offered x l) r w v → (s : ℕ) (u : A) → Chosen n (view Offered x l) s u → s < r → s ≤ w
     -- Lemma 1
     pub settled : Settled n _⊑_ (view Offered x l)
-    -- Theorem 1: agreement, and validity: each value issued was offered, before it was issued
+    -- Theorem 1: agreement, and validity: each value issued was offered, and before it was issued
     pub agreement : Agreement n _⊑_ (view Offered x l)
     pub validity : (r : ℕ) (v : A) → List·Memᴰ (issued r v) l → Offered l v
     pub offered-before : (y : ℕ → Box A) (r : ℕ) (v : A) → Step n _⊑_ Offered x l y (issued r v) → Offered l v
 
--- The theorem.
+-- The theorem: for any values, notes, number of boxes and relation, the claims hold of every run.
 abbrev pub Theory : Type 1
 Theory = (A N : Type 0) (n : ℕ) (⊑ : A → A → Type 0) (Offered : List (Event A N) → A → Type 0)
     → Preorder ⊑ → Persistent Offered → (x : ℕ → Box A) (l : List (Event A N)) → Run n ⊑ Offered x l → Claims n ⊑ Offered x l

@@ -11,12 +11,13 @@ pub record CannotTake {A : Type 0} (σ : View A) (r b : ℕ) : Type 0 where
 
 module _ {A : Type 0} (n : ℕ) (_⊑_ : A → A → Type 0) where
   infix 20 _⊑_
-  -- The rank r is no danger to a value v written above it (Lamport's SafeAt): no value can be chosen at r, or v follows the value
-  -- that was issued at r.
+  -- A value v written above the rank r is safe from r (Lamport's SafeAt): no value can be chosen at r, or v follows the value that
+  -- was issued at r.
   pub data Safe (σ : View A) (r : ℕ) (v : A) : Type 0 where
     unchoosable : Majority n (CannotTake σ r) → Safe σ r v
     follows : {u : A} → σ .Issued r u → u ⊑ v → Safe σ r v
 
+  -- The invariant.
   pub record Inv (σ : View A) : Type 0 where
     -- a rank is used for one value (the paper's Definition 1)
     pub unique : (r : ℕ) (u v : A) → σ .Issued r u → σ .Issued r v → u ≡ v

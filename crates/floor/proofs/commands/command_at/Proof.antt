@@ -23,4 +23,4 @@ command-at-spec =
     (λ c. search needs)
     (λ c. search needs)
     (λ c κs. search needs)
-    (λ c. rw (record-bytes (c .before .args .s .now) (c .before .args .at) (c .before .pre)) (c .decode .ensures)))
+    (λ c. rw (record-bytes (c .before .before .before .before .before .before .before .before .before .before .args .s .now) (c .before .before .before .before .before .before .before .before .before .before .args .at) (c .before .before .before .before .before .before .before .before .before .before .pre)) (c .decode .ensures)))
