@@ -1,0 +1,4 @@
+pub mod DriveLaws
+pub mod PlanLaws
+pub mod PhaseLaws
+pub mod FrontLaws

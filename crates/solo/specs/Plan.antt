@@ -39,9 +39,13 @@ answeringFrom (suc k) b boxes =
 abbrev pub answering : Floor → List ℕ
 answering f = answeringFrom (f .n) 0 (f .boxes)
 
--- "the q lowest-numbered answering boxes", a quorum; fewer where no more answer
-abbrev pub lowest : Floor → List ℕ
-lowest f = take (quorum (f .n)) (answering f)
+-- "the q lowest-numbered answering boxes" of the first n; fewer where no more answer
+unfoldable pub lowest : ℕ → List StorageBox → ℕ → List ℕ
+lowest q boxes n = take q (answeringFrom n 0 boxes)
+
+-- those of a floor: a quorum
+abbrev pub askedOf : Floor → List ℕ
+askedOf f = lowest (quorum (f .n)) (f .boxes) (f .n)
 
 -- the serve and the delivery of attempt a's read (false) or write (true) at box b
 abbrev pub serveOf : Bool → ℕ → ℕ → Command
@@ -64,4 +68,4 @@ exchanges write a (b ∷ bs) = exchange write a b ++ exchanges write a bs
 -- likewise": the list of its steps, as 8-byte records. The attempt is the next row of the floor handed in, and so are the boxes
 -- those that answer there.
 unfoldable pub planOf : Floor → ℕ → ℕ → List (List ℕ)
-planOf f s v = encodeOf (Begin s (roundOf f s) v) ∷ exchanges false (f .used) (lowest f) ++ exchanges true (f .used) (lowest f)
+planOf f s v = encodeOf (Begin s (roundOf f s) v) ∷ exchanges false (f .used) (askedOf f) ++ exchanges true (f .used) (askedOf f)
