@@ -2,3 +2,5 @@ pub mod DriveLaws
 pub mod PlanLaws
 pub mod PhaseLaws
 pub mod FrontLaws
+pub mod CountLaws
+pub mod RoundLaws

@@ -1,12 +1,12 @@
 -- Document 01, "Solo finish": the round that it picks, the boxes that it asks, and the list of its steps.
-use Prim.Native.Nat.{ℕ, zero, suc, _+_, _-_, _/_, max}
+use Prim.Native.Nat.{ℕ, zero, suc, _+_, _-_, _/_, _≤_, _<_, max}
 use mathlib.Core.Bool.{Bool, true, false}
 use mathlib.Core.List.{List, [], _∷_, _++_}
 use lib.ListN.{getD, take}
 use Rattle.base.specs.Choice.{if_then_else_}
-use Rattle.base.specs.Numbers.{quorum}
+use Rattle.base.specs.Numbers.{quorum, rankOf}
 use Rattle.register.specs.declared.StorageBox.{StorageBox}
-use Rattle.floor.specs.State.{box0, row0}
+use Rattle.floor.specs.State.{box0, row0, rowAt}
 use Rattle.floor.specs.Commands.{encodeOf}
 use Rattle.floor.specs.declared.Row.{Row}
 use Rattle.floor.specs.declared.Floor.{Floor}
@@ -22,12 +22,18 @@ highestRank rows (suc k) = max (highestRank rows k) (getD rows k row0 .rank)
 abbrev pub highestBegun : Floor → ℕ
 highestBegun f = highestRank (f .rows) (f .used)
 
--- "the smallest round, at least 1, whose rank passes every rank begun": for station s, where the highest of those ranks is h
+-- the smallest round of at least 1 whose rank for station s passes h
 unfoldable pub roundAbove : ℕ → ℕ → ℕ
 roundAbove h s = (h - s) / 16 + 1
 
 abbrev pub roundOf : Floor → ℕ → ℕ
 roundOf f s = roundAbove (highestBegun f) s
+
+-- "the smallest round, at least 1, whose rank passes every rank begun on the floor": what `roundOf f s` is shown to be
+pub record Smallest (f : Floor) (s round : ℕ) : Type 0 where
+  pub some : 1 ≤ round
+  pub passes : (a : ℕ) → a < f .used → rowAt f a .rank < rankOf round s
+  pub least : (r : ℕ) → 1 ≤ r → ((a : ℕ) → a < f .used → rowAt f a .rank < rankOf r s) → round ≤ r
 
 -- of k boxes from box b on, the numbers of those that have not stopped, in ascending order
 unfoldable pub answeringFrom : ℕ → ℕ → List StorageBox → List ℕ
