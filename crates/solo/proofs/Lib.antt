@@ -4,3 +4,4 @@ pub mod PhaseLaws
 pub mod FrontLaws
 pub mod CountLaws
 pub mod RoundLaws
+pub mod LawfulLaws
