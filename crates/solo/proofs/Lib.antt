@@ -5,3 +5,7 @@ pub mod FrontLaws
 pub mod CountLaws
 pub mod RoundLaws
 pub mod LawfulLaws
+pub mod Requests
+pub mod Accepted
+pub mod Course
+pub mod Decides
