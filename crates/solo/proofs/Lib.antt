@@ -9,3 +9,4 @@ pub mod Requests
 pub mod Accepted
 pub mod Course
 pub mod Decides
+pub mod Examples
