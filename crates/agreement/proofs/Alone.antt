@@ -1,4 +1,4 @@
--- What a solo finish asks of a floor, read off the list, and the records of its plan.
+-- What a solo finish asks of a floor, read off the list, and what its plan delivers.
 use Prim.Native.Nat.{ℕ, zero, suc, _+_, _≤_, _<_}
 use native.Mathlib.Nat.{zero-add, le-trans}
 use native.Mathlib.Omega.{arith}
@@ -6,24 +6,22 @@ use mathlib.Core.Path.{_≡_, refl, sym, ap, subst, _∙_}
 use mathlib.Core.Bool.{Bool, true, false}
 use mathlib.Core.List.{List, [], _∷_, _++_}
 use lib.ListN.{length, getD, take}
-use Rattle.base.specs.Numbers.{quorum}
 use Rattle.base.proofs.Choices.{by-test}
 use Rattle.register.specs.declared.StorageBox.{StorageBox}
 use Rattle.protocol.specs.Quorum.{indicator, count, Majority}
 use Rattle.protocol.proofs.QuorumLaws.{count-low}
-use Rattle.floor.specs.State.{box0, stationAt, rowAt}
+use Rattle.floor.specs.State.{box0}
 use Rattle.floor.specs.Commands.{commandOf, encodeOf}
 use Rattle.floor.specs.declared.Floor.{Floor}
 use Rattle.floor.specs.declared.Command.{Command}
 use Rattle.floor.specs.declared.Command.the-variants.{Begin, ServeRead, ServeWrite, DeliverRead, DeliverWrite}
 use Rattle.floor.proofs.Standings.{clash}
-use Rattle.floor.proofs.Encodings.{decode-encode, encode-length}
-use Rattle.floor.proofs.CommandLaws.{Fielded, Bytes, encode-bytes}
-use Rattle.solo.specs.Plan.{roundOf, answeringFrom, answering, lowest, askedOf, serveOf, deliverOf, exchange, exchanges, planOf}
-use Rattle.solo.specs.Progress.{Lawful, Ready}
+use Rattle.floor.proofs.Encodings.{decode-encode}
+use Rattle.solo.specs.Plan.{roundOf, answeringFrom, askedOf, exchange, exchanges, planOf}
+use Rattle.solo.specs.Progress.{Ready}
+use Rattle.solo.specs.Alone.{AllRecords}
 use Rattle.solo.proofs.RoundLaws.{round-smallest}
 use Rattle.agreement.specs.Words.{floorAt, Answering, IdleAt, attemptsBefore, RoundLeft}
-use Rattle.agreement.specs.Demand.{IsRecord}
 use Rattle.agreement.proofs.Reach.{New}
 use Rattle.agreement.proofs.Positions.{size-at}
 use Rattle.agreement.proofs.Standing.{stations-at, used-at, stopped-before, idle-state, round-outranks}
@@ -71,7 +69,10 @@ module _ (f : Floor) (l : List (List ℕ)) (new : New f) (s v i : ℕ) where
         (is-false _ (λ e. boxes .each j h t (stopped-before f l new j i e))))));
   }
 
--- P holds of each record of a list
+-- Of the records of the plan, a delivery of a write answer is one of the attempt a.
+abbrev Delivers : ℕ → List ℕ → Type 0
+Delivers a r = (x b : ℕ) → commandOf r ≡ DeliverWrite x b → x ≡ a
+
 abbrev Each : (List ℕ → Type 0) → List (List ℕ) → Type 0
 Each P [] = Unit {0}
 Each P (r ∷ l) = P r × Each P l
@@ -85,60 +86,27 @@ each-append : (P : List ℕ → Type 0) (l k : List (List ℕ)) → Each P l →
 each-append P [] k e g = g
 each-append P (r ∷ l) k e g = (e .0, each-append P l k (e .1) g)
 
--- the boxes asked are boxes of the floor
-abbrev Below : List ℕ → Type 0
-Below [] = Unit {0}
-Below (b ∷ l) = (b < 9) × Below l
+delivers : (a : ℕ) (c : Command) → ((x b : ℕ) → c ≡ DeliverWrite x b → x ≡ a) → Delivers a (encodeOf c)
+delivers a c d x b q = d x b (sym (decode-encode c) ∙ q)
 
-below-take : (q : ℕ) (l : List ℕ) → Below l → Below (take q l)
-below-take zero l e = tt
-below-take (suc q) [] e = tt
-below-take (suc q) (b ∷ l) e = (e .0, below-take q l (e .1))
+exchanges-deliver : (a : ℕ) (write : Bool) (l : List ℕ) → Each (Delivers a) (exchanges write a l)
+unfolding exchanges exchange
+exchanges-deliver a write [] = tt
+exchanges-deliver a false (b ∷ l) = (delivers a (ServeRead a b) (λ x y q. cc), (delivers a (DeliverRead a b) (λ x y q. cc), exchanges-deliver a false l))
+exchanges-deliver a true (b ∷ l) = (delivers a (ServeWrite a b) (λ x y q. cc), (delivers a (DeliverWrite a b) (λ x y q. cc), exchanges-deliver a true l))
 
-below-answering : (boxes : List StorageBox) (k b : ℕ) → b + k ≤ 9 → Below (answeringFrom k b boxes)
-unfolding answeringFrom
-below-answering boxes zero b h = tt
-below-answering boxes (suc k) b h =
-    let rest = below-answering boxes k (b + 1) (omega arith) in
-    by-test Below (getD boxes b box0 .stopped) _ _ (λ _. rest) (λ _. (omega arith, rest))
+plan-each : (g : Floor) (s v : ℕ) → Each (Delivers (g .used)) (planOf g s v)
+unfolding planOf
+plan-each g s v = (
+  delivers (g .used) (Begin s (roundOf g s) v) (λ x b q. cc),
+  each-append (Delivers (g .used)) (exchanges false (g .used) (askedOf g)) _ (exchanges-deliver (g .used) false (askedOf g)) (exchanges-deliver (g .used) true (askedOf g)),
+)
 
--- a record of the plan: it has 8 bytes, and as a delivery of a write answer it is one of the attempt a
-pub record Planned (a : ℕ) (r : List ℕ) : Type 0 where
-  pub bytes : IsRecord r
-  pub delivers : (x b : ℕ) → commandOf r ≡ DeliverWrite x b → x ≡ a
+pub plan-delivers : (g : Floor) (s v i : ℕ) → i < length (planOf g s v) → Delivers (g .used) (getD (planOf g s v) i [])
+plan-delivers g s v = each-at (Delivers (g .used)) (planOf g s v) (plan-each g s v)
 
-bytes-at : (r : List ℕ) → Bytes r → (j : ℕ) → getD r j 0 < 256
-bytes-at [] e j = omega arith
-bytes-at (x ∷ r) e zero = e .0
-bytes-at (x ∷ r) e (suc j) = bytes-at r (e .1) j
-
-encoded : (c : Command) → Fielded c → IsRecord (encodeOf c)
-encoded c h = record { eight = encode-length c; bytes = bytes-at (encodeOf c) (encode-bytes c h) }
-
-module _ (a : ℕ) (h : a < 64) where
-  planned : (c : Command) → Fielded c → ((x b : ℕ) → c ≡ DeliverWrite x b → x ≡ a) → Planned a (encodeOf c)
-  planned c e d = record { bytes = encoded c e; delivers = λ x b q. d x b (sym (decode-encode c) ∙ q) }
-
-  serve-planned : (write : Bool) (b : ℕ) → b < 9 → Planned a (encodeOf (serveOf write a b))
-  serve-planned false b k = planned (ServeRead a b) (omega arith) (λ x y q. cc)
-  serve-planned true b k = planned (ServeWrite a b) (omega arith) (λ x y q. cc)
-
-  deliver-planned : (write : Bool) (b : ℕ) → b < 9 → Planned a (encodeOf (deliverOf write a b))
-  deliver-planned false b k = planned (DeliverRead a b) (omega arith) (λ x y q. cc)
-  deliver-planned true b k = planned (DeliverWrite a b) (omega arith) (λ x y q. cc)
-
-  exchanges-planned : (write : Bool) (l : List ℕ) → Below l → Each (Planned a) (exchanges write a l)
-  unfolding exchanges exchange
-  exchanges-planned write [] e = tt
-  exchanges-planned write (b ∷ l) e = (serve-planned write b (e .0), (deliver-planned write b (e .0), exchanges-planned write l (e .1)))
-
-plan-each : (g : Floor) (s v : ℕ) → Lawful g → Ready g s v → v < 4294967296 → Each (Planned (g .used)) (planOf g s v)
-unfolding planOf lowest
-plan-each g s v y x h =
-    let asked = below-take (quorum (g .n)) (answering g) (below-answering (g .boxes) (g .n) 0 (omega (arith, y .sound .box-most))) in (
-      planned (g .used) (x .row) (Begin s (roundOf g s) v) (omega (arith, x .station, x .round, y .sound .station-most)) (λ a b q. cc),
-      each-append (Planned (g .used)) (exchanges false (g .used) (askedOf g)) _ (exchanges-planned (g .used) (x .row) false _ asked) (exchanges-planned (g .used) (x .row) true _ asked),
-    )
-
-pub plan-records : (g : Floor) (s v : ℕ) → Lawful g → Ready g s v → v < 4294967296 → (i : ℕ) → i < length (planOf g s v) → Planned (g .used) (getD (planOf g s v) i [])
-plan-records g s v y x h = each-at (Planned (g .used)) (planOf g s v) (plan-each g s v y x h)
+-- some of the records of the plan are records of 8 bytes, as all are
+pub all-take : (k : ℕ) (l : List (List ℕ)) → AllRecords l → AllRecords (take k l)
+all-take zero l e = tt
+all-take (suc k) [] e = tt
+all-take (suc k) (r ∷ l) e = (e .0, all-take k l (e .1))

@@ -11,7 +11,6 @@ use Rattle.floor.specs.State.{rowAt}
 use Rattle.floor.specs.Rows.{newRow}
 use Rattle.floor.specs.Commands.{commandOf}
 use Rattle.floor.specs.Step.{isRefused, stepOf}
-use Rattle.floor.specs.Runs.{after}
 use Rattle.floor.specs.declared.Row.{Row}
 use Rattle.floor.specs.declared.Floor.{Floor}
 use Rattle.floor.specs.declared.Stepped.{Stepped}
@@ -26,26 +25,27 @@ use Rattle.floor.proofs.Keeps.{Lengths, row-stored, step-lengths}
 use Rattle.floor.proofs.RowLaws.{apply-used, row-same}
 use Rattle.solo.specs.Plan.{roundOf, planOf}
 use Rattle.solo.specs.Solo.{soloOf}
-use Rattle.solo.specs.Counted as counted
-use Rattle.solo.specs.Counted.{saidBy, AllAccepted, lastSaid, Counted}
+use Rattle.solo.specs.Counted.{after, saidBy, AllAccepted, lastSaid, Counted}
 use Rattle.solo.specs.Progress.{Lawful, Ready, Decides}
 use Rattle.solo.specs.declared.Solo.{Solo}
 use Rattle.solo.proofs.CountLaws.{solo-counted}
 use Rattle.solo.proofs.LawfulLaws.{after-lawful, new-lawful}
 use Rattle.solo.proofs.Decides.{solo-decides}
-use Rattle.agreement.specs.Words.{commandAt, floorAt, saidAt, DecidesAt}
+use Rattle.solo.proofs.Alones.{plan-records}
+use Rattle.agreement.specs.Words.{commandAt, floorAt, floorLeft, saidAt, DecidesAt}
 use Rattle.agreement.specs.Claim.{firstFloor}
-use Rattle.agreement.specs.Demand.{IsRecord, DrivenAlone, Demand3}
+use Rattle.agreement.specs.Demand.{DrivenAlone, Demand3}
 use Rattle.agreement.proofs.Reach.{New, new-floor}
 use Rattle.agreement.proofs.Positions.{size-at, means-at}
 use Rattle.agreement.proofs.Safety.{decides-at, safety}
-use Rattle.agreement.proofs.Lists.{said-shift, floor-end, floor-behind, said-behind, end-behind}
-use Rattle.agreement.proofs.Alone.{ready, plan-records}
+use Rattle.agreement.proofs.Lists.{floor-shift, said-shift, floor-behind, said-behind, left-behind}
+use Rattle.agreement.proofs.Alone.{ready, plan-delivers, all-take}
 
-after-same : (f : Floor) (l : List (List ℕ)) → counted.after f l ≡ after f l
-unfolding after counted.after
-after-same f [] = refl
-after-same f (r ∷ l) = after-same (stepOf f r .floor) l
+-- the floor that a list left
+left-after : (f : Floor) (l : List (List ℕ)) → floorLeft f l ≡ after f l
+unfolding floorAt after
+left-after f [] = refl
+left-after f (r ∷ l) = floor-shift f r l (length l) ∙ left-after (stepOf f r .floor) l
 
 -- what a list of steps said, by position
 said-accepted : (g : Floor) (l : List (List ℕ)) → AllAccepted (saidBy g l) → (i : ℕ) → i < length l → isRefused (saidAt g l i) ≡ false
@@ -80,9 +80,9 @@ module _ (g : Floor) (y : Lengths g) (l : List (List ℕ)) (s round v : ℕ) (fi
         row-same (floorAt g l (suc i)) (commandAt l (suc i)) (g .used) (o .0) .station ∙ o .1,
       )
 
-module _ (f : Floor) (l : List (List ℕ)) (new : New f) (s v : ℕ) (y : Lawful (after f l)) (x : Ready (after f l) s v) (h : v < 4294967296) where
+module _ (f : Floor) (l : List (List ℕ)) (new : New f) (s v : ℕ) (y : Lawful (floorLeft f l)) (x : Ready (floorLeft f l) s v) (h : v < 4294967296) where
   abbrev g : Floor
-  g = after f l
+  g = floorLeft f l
 
   abbrev d : Solo
   d = soloOf g s v
@@ -123,7 +123,7 @@ module _ (f : Floor) (l : List (List ℕ)) (new : New f) (s v : ℕ) (y : Lawful
       let m = means-at f (l ++ steps) new (length l + i) (said.Decided (decided-steps .revision)) e in
       let p = step-planned i (omega arith) in
       let r : getD (l ++ steps) (length l + i) [] ≡ getD plan i [] = getD-append-add l steps i [] ∙ p .1 in
-      let a = plan-records g s v y x h i (p .0) .delivers (m .attempt) (m .box) (ap commandOf (sym r) ∙ m .answer .command) in
+      let a = plan-delivers g s v i (p .0) (m .attempt) (m .box) (ap commandOf (sym r) ∙ m .answer .command) in
       decides-at f (l ++ steps) new (length l + i) s (decided-steps .revision) (m .attempt) (m .box) (m .answer .command) (m .answer .may .used) (own i q (m .attempt) a) e
     where
       own : (i : ℕ) → suc i ≡ length steps → (a : ℕ) → a ≡ g .used → rowAt (floorAt f (l ++ steps) (length l + i)) a .station ≡ s
@@ -134,20 +134,19 @@ module _ (f : Floor) (l : List (List ℕ)) (new : New f) (s v : ℕ) (y : Lawful
   alone : DrivenAlone f l s d
   alone = record {
     steps = steps;
-    records = λ i k. let p = step-planned i k in subst IsRecord (sym (p .1)) (plan-records g s v y x h i (p .0) .bytes);
+    records = all-take (d .steps) plan (plan-records g s v (omega (arith, x .station, y .sound .station-most)) h (x .round) (omega (arith, x .row)) (omega (arith, y .sound .box-most)));
     accepted = λ i k. ap isRefused (said-behind f l steps i) ∙ accepted i k;
-    floor = end-behind f l steps ∙ sym (after-same g steps) ∙ sym (counted-steps .reached);
+    floor = left-behind f l steps ∙ left-after g steps ∙ sym (counted-steps .reached);
     revision = decided-steps .revision;
     decides = decides;
     outcome = decided-steps .said;
     number = counted-steps .number;
-    count = decided-steps .steps ∙ ap (λ (n : ℕ). 4 * quorum n + 1) (ap (λ (k : Floor). k .n) (sym (floor-end f l)) ∙ size-at f l (length l));
+    count = decided-steps .steps ∙ ap (λ (n : ℕ). 4 * quorum n + 1) (size-at f l (length l));
   }
 
 pub demand3 : (n m : ℕ) (l : List (List ℕ)) → Demand3 n m l
 demand3 n m l = let f = firstFloor n m in let new = new-floor n m in record {
   safety = safety n m l;
-  solo = λ s v place idle boxes few round offer h. subst (λ (g : Floor). DrivenAlone f l s (soloOf g s v)) (sym (floor-end f l))
-      (alone f l new s v (subst Lawful (after-same f l) (after-lawful l f (new-lawful n m)))
-      (subst (λ (g : Floor). Ready g s v) (floor-end f l) (ready f l new s v (length l) place idle boxes few round offer)) h);
+  solo = λ s v place idle boxes few round offer h.
+      alone f l new s v (subst Lawful (sym (left-after f l)) (after-lawful l f (new-lawful n m))) (ready f l new s v (length l) place idle boxes few round offer) h;
 }

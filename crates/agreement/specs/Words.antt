@@ -5,7 +5,7 @@ use mathlib.Core.Path.{_≡_}
 use mathlib.Core.Logic.{_⊎_}
 use mathlib.Core.Bool.{Bool, true, false}
 use mathlib.Core.List.{List, []}
-use lib.ListN.{getD}
+use lib.ListN.{length, getD}
 use Rattle.base.specs.Numbers.{rankOf}
 use Rattle.protocol.specs.Quorum.{count, Majority}
 use Rattle.floor.specs.State.{stationAt}
@@ -41,11 +41,14 @@ isBegun (said.Refused k) = false
 
 -- the steps of the list l from the floor f
 module _ (f : Floor) (l : List (List ℕ)) where
-  -- "Each step is given the floor that the one before handed back, after a refused one too": the floor before the step at i.
-  -- At the length of the list it is the floor that the list left.
+  -- "Each step is given the floor that the one before handed back, after a refused one too": the floor before the step at i
   unfoldable pub floorAt : ℕ → Floor
   floorAt zero = f
   floorAt (suc i) = stepOf (floorAt i) (getD l i []) .floor
+
+  -- the floor that the list left
+  abbrev pub floorLeft : Floor
+  floorLeft = floorAt (length l)
 
   -- what the step at i said
   abbrev pub saidAt : ℕ → Outcome
