@@ -2,7 +2,7 @@
 use Prim.Native.Nat.{ℕ, zero, suc, _+_, _≤_, _<_}
 use native.Mathlib.Nat.{zero-add, le-trans}
 use native.Mathlib.Omega.{arith}
-use mathlib.Core.Path.{_≡_, refl, sym, ap, subst, _∙_}
+use mathlib.Core.Path.{_≡_, refl, sym, subst, _∙_}
 use mathlib.Core.Bool.{Bool, true, false}
 use mathlib.Core.List.{List, [], _∷_, _++_}
 use lib.ListN.{length, getD, take}
@@ -62,7 +62,7 @@ module _ (f : Floor) (l : List (List ℕ)) (new : New f) (s v i : ℕ) where
     station = omega (arith, stations-at f l new i);
     idle = idle-state f l new s i idle;
     offer = offer;
-    round = le-trans (round-smallest (floorAt f l i) s .least (round .round) (round .least) (round-outranks f l new s i round)) (round .most);
+    round = omega (arith, round-smallest (floorAt f l i) s .least (round .round) (round .least) (round-outranks f l new s i round), round .most);
     row = omega (arith, used-at f l new i);
     boxes = rw (size-at f l i) (le-trans (boxes .large)
         (count-answering (floorAt f l i .boxes) (f .n) 0 (boxes .set) (λ j h t. subst (λ (b : ℕ). getD (floorAt f l i .boxes) b box0 .stopped ≡ false) (sym (zero-add j))

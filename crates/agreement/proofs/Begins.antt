@@ -1,9 +1,9 @@
 -- A begin: the floor after it shows the history with the offer.
 use Prim.Native.Nat.{ℕ, zero, suc, _+_, _/_, _%_, _≤_, _<_}
-use native.Mathlib.Nat.{le-refl, le-trans, ne-of-lt}
+use native.Mathlib.Nat.{le-refl, le-trans}
 use native.Mathlib.Omega.{arith}
 use mathlib.Core.Path.{_≡_, refl, sym, ap, subst, _∙_}
-use mathlib.Core.Bool.{true, false}
+use mathlib.Core.Bool.{false}
 use mathlib.Core.List.{List, _∷_, List·Memᴰ·head}
 use lib.ListN.{getD, set}
 use Rattle.base.specs.Numbers.{rankOf}

@@ -10,11 +10,11 @@ use lib.ListN.{length, getD, List·getD-eq-default}
 use borrow.Author.Tests.{lt-leb}
 use Rattle.base.specs.Choice.{if_then_else_}
 use Rattle.base.proofs.Choices.{on-true, on-false}
-use Rattle.floor.specs.State.{stationAt, rowAt, isGone, isBusy}
+use Rattle.floor.specs.State.{stationAt, isGone, isBusy}
 use Rattle.floor.specs.Sound.{Sound}
 use Rattle.floor.specs.Commands.{between, commandOf}
 use Rattle.floor.specs.Refusals.{beginRefusal}
-use Rattle.floor.specs.Step.{isRefused, look, refused, applyOf, stepOf}
+use Rattle.floor.specs.Step.{isRefused, look, applyOf, stepOf}
 use Rattle.floor.specs.declared.Phase.{Phase}
 use Rattle.floor.specs.declared.Phase.the-variants.{Idle, Reading, Writing, Decided, Gone}
 use Rattle.floor.specs.declared.Station.{Station}
@@ -31,9 +31,10 @@ use Rattle.floor.proofs.View.{StepView, turned, step-view}
 use Rattle.floor.proofs.Keeps.{new-sound}
 use Rattle.floor.proofs.Moves.{StationMove, station-kept, station-begins, station-issues, station-decides, station-aborts, station-leaves, apply-station}
 use Rattle.agreement.specs.Words.{commandAt, floorAt, saidAt, DecidesAt, shownAt}
-use Rattle.agreement.specs.Claim.{firstFloor, Consequences}
+use Rattle.agreement.specs.Demand.{firstFloor}
+use Rattle.agreement.specs.Consequences.{Consequences}
 use Rattle.agreement.proofs.Reach.{New, new-floor}
-use Rattle.agreement.proofs.Positions.{up-to, means-at, row-at}
+use Rattle.agreement.proofs.Positions.{up-to}
 use Rattle.agreement.proofs.Safety.{agreement, decision-of, decider-at, shown-decided, shown-still}
 use Rattle.agreement.proofs.Standing.{stations-at, sound-at}
 

@@ -7,6 +7,7 @@ use mathlib.Core.List.{List, [], _∷_, _++_}
 use lib.ListN.{length, getD, take}
 use lib.Seq.{getD-take, getD-append-add}
 use Rattle.base.specs.Numbers.{quorum}
+use Rattle.protocol.proofs.QuorumLaws.{at-least-map}
 use Rattle.floor.specs.State.{rowAt}
 use Rattle.floor.specs.Rows.{newRow}
 use Rattle.floor.specs.Commands.{commandOf}
@@ -15,13 +16,13 @@ use Rattle.floor.specs.declared.Row.{Row}
 use Rattle.floor.specs.declared.Floor.{Floor}
 use Rattle.floor.specs.declared.Stepped.{Stepped}
 use Rattle.floor.specs.declared.Command.{Command}
-use Rattle.floor.specs.declared.Command.the-variants.{Begin, DeliverWrite}
+use Rattle.floor.specs.declared.Command.the-variants.{Begin}
 use Rattle.floor.specs.declared.Outcome.{Outcome}
 use Rattle.floor.specs.declared.Outcome.the-variants as said
 use Rattle.floor.proofs.Standings.{clash}
 use Rattle.floor.proofs.Encodings.{decode-encode}
 use Rattle.floor.proofs.View.{StepView, turned, began, step-view}
-use Rattle.floor.proofs.Keeps.{Lengths, row-stored, step-lengths}
+use Rattle.floor.proofs.Keeps.{Lengths, row-stored}
 use Rattle.floor.proofs.RowLaws.{apply-used, row-same}
 use Rattle.solo.specs.Plan.{roundOf, planOf}
 use Rattle.solo.specs.Solo.{soloOf}
@@ -33,8 +34,7 @@ use Rattle.solo.proofs.LawfulLaws.{after-lawful, new-lawful}
 use Rattle.solo.proofs.Decides.{solo-decides}
 use Rattle.solo.proofs.Alones.{plan-records}
 use Rattle.agreement.specs.Words.{commandAt, floorAt, floorLeft, saidAt, DecidesAt}
-use Rattle.agreement.specs.Claim.{firstFloor}
-use Rattle.agreement.specs.Demand.{DrivenAlone, Demand3}
+use Rattle.agreement.specs.Demand.{firstFloor, DrivenAlone, Demand3}
 use Rattle.agreement.proofs.Reach.{New, new-floor}
 use Rattle.agreement.proofs.Positions.{size-at, means-at}
 use Rattle.agreement.proofs.Safety.{decides-at, safety}
@@ -141,12 +141,12 @@ module _ (f : Floor) (l : List (List ℕ)) (new : New f) (s v : ℕ) (y : Lawful
     decides = decides;
     outcome = decided-steps .said;
     number = counted-steps .number;
-    count = decided-steps .steps ∙ ap (λ (n : ℕ). 4 * quorum n + 1) (size-at f l (length l));
+    count = omega (arith, decided-steps .steps, size-at f l (length l));
   }
 
 pub demand3 : (n m : ℕ) (l : List (List ℕ)) → Demand3 n m l
 demand3 n m l = let f = firstFloor n m in let new = new-floor n m in record {
   safety = safety n m l;
   solo = λ s v place idle boxes few round offer h.
-      alone f l new s v (subst Lawful (sym (left-after f l)) (after-lawful l f (new-lawful n m))) (ready f l new s v (length l) place idle boxes few round offer) h;
+      alone f l new s v (subst Lawful (sym (left-after f l)) (after-lawful l f (new-lawful n m))) (ready f l new s v (length l) place idle (at-least-map (omega arith) (λ b a. a) boxes) (omega arith) round (omega arith)) (omega arith);
 }

@@ -18,11 +18,10 @@ use Rattle.floor.specs.Refusals.{beginRefusal, serveRefusal, deliverRefusal, st
 use Rattle.floor.specs.Effects.{begun, servedRead, servedWrite, deliveredRead, deliveredWrite}
 use Rattle.floor.specs.Step.{playOf, applyOf, stepOf}
 use Rattle.floor.specs.declared.Floor.{Floor}
-use Rattle.floor.specs.declared.Command.{Command}
-use Rattle.floor.specs.declared.Command.the-variants.{Begin, ServeRead, ServeWrite, DeliverRead, DeliverWrite, Stop, Leave}
+use Rattle.floor.specs.declared.Command.the-variants.{Begin, ServeRead, ServeWrite, DeliverRead, DeliverWrite}
 use Rattle.floor.specs.declared.Outcome.the-variants as said
 use Rattle.agreement.specs.Words.{floorAt, saidAt, DecidesAt, OutrankedAt, shownAt, attemptsBefore}
-use Rattle.agreement.specs.Claim.{firstFloor}
+use Rattle.agreement.specs.Demand.{firstFloor}
 use Rattle.agreement.proofs.Safety.{safety}
 use Rattle.agreement.proofs.Consequences.{consequences}
 

@@ -1,15 +1,15 @@
 -- The run by positions: the history before each, the attempt that a row in use belongs to, and what each decision and abort tells.
-use Prim.Native.Nat.{ℕ, zero, suc, _+_, _≤_, _<_}
+use Prim.Native.Nat.{ℕ, zero, suc, _≤_, _<_}
 use native.Mathlib.Nat.{eq-or-lt-of-le}
 use native.Mathlib.Decide.{decLt}
 use native.Mathlib.Omega.{arith}
-use mathlib.Core.Path.{_≡_, refl, sym, ap, ap₂, subst, _∙_}
+use mathlib.Core.Path.{_≡_, refl, sym, ap, subst, _∙_}
 use mathlib.Core.Logic.{_⊎_, inl, inr}
 use mathlib.Core.List.{List, [], _∷_, List·Memᴰ, List·Memᴰ·tail, List·Memᴰ·cases-cons, List·Memᴰ·not-nil}
 use lib.ListN.{getD}
 use Rattle.floor.specs.State.{rowAt}
 use Rattle.floor.specs.Rows.{newRow}
-use Rattle.floor.specs.Step.{applyOf, stepOf}
+use Rattle.floor.specs.Step.{stepOf}
 use Rattle.floor.specs.declared.Row.{Row}
 use Rattle.floor.specs.declared.Floor.{Floor}
 use Rattle.floor.specs.declared.Stepped.{Stepped}

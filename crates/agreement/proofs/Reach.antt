@@ -1,46 +1,41 @@
 -- Every step, accepted or refused, leads from a floor that shows its history to one that shows it with what happened.
-use Prim.Native.Nat.{ℕ, _+_, _<_}
+use Prim.Native.Nat.{ℕ, _<_}
 use native.Mathlib.Omega.{arith}
 use mathlib.Core.Path.{_≡_, refl, sym, ap, subst}
 use mathlib.Core.Logic.{_⊎_, inl, inr}
 use mathlib.Core.Bool.{Bool, true, false}
-use mathlib.Core.List.{List, [], _∷_, List·Memᴰ, List·Memᴰ·not-nil}
-use lib.ListN.{length, getD, set}
-use lib.Seq.{getD-set-same}
-use Rattle.base.specs.Numbers.{rankOf, sizesRight}
+use mathlib.Core.List.{[], _∷_, List·Memᴰ·not-nil}
+use Rattle.base.specs.Numbers.{sizesRight}
 use Rattle.base.proofs.Choices.{by-test}
 use Rattle.register.specs.Register.{rmwWrite}
 use Rattle.register.specs.declared.StorageBox.{StorageBox}
-use Rattle.protocol.specs.View.{Chosen}
 use Rattle.protocol.specs.Invariant.{Inv}
-use Rattle.protocol.specs.Trace.{read, issued, took, refused, note, Step, other-event, Run, new, next}
+use Rattle.protocol.specs.Trace.{read, issued, took, refused, note, other-event, Run, new, next}
 use Rattle.protocol.proofs.Runs.{run-inv}
 use Rattle.protocol.proofs.Instances.{equality}
-use Rattle.floor.specs.State.{box0, station0, row0, boxAt, stationAt, rowAt}
+use Rattle.floor.specs.State.{box0, station0, boxAt, stationAt, rowAt}
 use Rattle.floor.specs.Sound.{Sound}
 use Rattle.floor.specs.Floors.{emptyFloor, newFloorOf}
-use Rattle.floor.specs.Rows.{newRow, revisionOf}
+use Rattle.floor.specs.Rows.{revisionOf}
 use Rattle.floor.specs.Effects.{withState}
 use Rattle.floor.specs.declared.Phase.the-variants as phase
-use Rattle.floor.specs.declared.Station.{Station}
-use Rattle.floor.specs.declared.Row.{Row}
 use Rattle.floor.specs.declared.Floor.{Floor}
 use Rattle.floor.specs.declared.NewFloor.{NewFloor}
 use Rattle.floor.specs.declared.Stepped.{Stepped}
 use Rattle.floor.specs.declared.Command.{Command}
-use Rattle.floor.specs.declared.Command.the-variants.{Begin, ServeRead, ServeWrite, DeliverWrite}
+use Rattle.floor.specs.declared.Command.the-variants.{Begin, ServeRead, ServeWrite}
 use Rattle.floor.specs.declared.Outcome.{Outcome}
 use Rattle.floor.specs.declared.Outcome.the-variants as said
-use Rattle.floor.proofs.Forms.{readHeard, decider, afterStop, afterLeave}
-use Rattle.floor.proofs.View.{CanStop, CanLeave, StepView, turned, began, read-served, write-served, read-heard, issued, write-heard, decided, aborted, stopped, left}
+use Rattle.floor.proofs.Forms.{readHeard, afterStop, afterLeave}
+use Rattle.floor.proofs.View.{CanLeave, StepView, turned, began, read-served, write-served, read-heard, issued, write-heard, decided, aborted, stopped, left}
 use Rattle.floor.proofs.View as view
 use Rattle.floor.proofs.Keeps.{Lengths, empty-lengths}
 use Rattle.floor.proofs.Stores.{set-all, getD-same}
-use Rattle.agreement.proofs.History.{offered, quiet, Happening, History, Offered, offered-stays, toBox, boxesOf, Paired, Seat, seats-stored, last-stored, Shows, shows-kept}
+use Rattle.agreement.proofs.History.{offered, quiet, Happening, History, Offered, offered-stays, toBox, boxesOf, Paired, seats-stored, last-stored, Shows, shows-kept}
 use Rattle.agreement.proofs.Serves.{Goes, readEvent, wroteEvent, writeEvent, serve-read-goes, serve-write-goes}
-use Rattle.agreement.proofs.Deliveries.{viewOf, owner-writes}
+use Rattle.agreement.proofs.Deliveries.{viewOf}
 use Rattle.agreement.proofs.Issues.{read-heard-goes, issue-goes}
-use Rattle.agreement.proofs.Decisions.{write-heard-goes, decision-goes, decision-chosen, abort-goes, abort-refused}
+use Rattle.agreement.proofs.Decisions.{write-heard-goes, decision-goes, abort-goes}
 use Rattle.agreement.proofs.Begins.{begin-goes}
 
 -- what happens at a step

@@ -4,7 +4,7 @@ use native.Mathlib.Decide.{decLt}
 use native.Mathlib.Omega.{arith}
 use mathlib.Core.Path.{_≡_, refl, sym, ap, subst, _∙_}
 use mathlib.Core.Logic.{_⊎_, inl, inr}
-use mathlib.Core.List.{List, [], List·Memᴰ}
+use mathlib.Core.List.{List, List·Memᴰ}
 use Rattle.protocol.specs.Quorum.{Majority}
 use Rattle.protocol.specs.View.{Chosen}
 use Rattle.protocol.specs.Trace.{read, took, note, Served, by-read, by-write}
@@ -16,17 +16,16 @@ use Rattle.floor.specs.Step.{stepOf}
 use Rattle.floor.specs.declared.Phase.the-variants.{Decided}
 use Rattle.floor.specs.declared.Station.{Station}
 use Rattle.floor.specs.declared.Floor.{Floor}
-use Rattle.floor.specs.declared.Command.{Command}
 use Rattle.floor.specs.declared.Command.the-variants.{ServeRead, ServeWrite, DeliverWrite}
 use Rattle.floor.specs.declared.Outcome.the-variants as said
-use Rattle.floor.proofs.StationLaws.{Decides, decided-from}
-use Rattle.agreement.specs.Words.{Before, commandAt, floorAt, saidAt, Attempt, attemptRank, Named, OfferedAt, ServedAt, DecidesAt, AbortsAt, OutrankedAt, shownAt, ShownAt}
-use Rattle.agreement.specs.Claim.{firstFloor, Safety}
+use Rattle.floor.proofs.StationLaws.{decided-from}
+use Rattle.agreement.specs.Words.{Before, commandAt, floorAt, saidAt, Attempt, Named, OfferedAt, ServedAt, DecidesAt, OutrankedAt, shownAt}
+use Rattle.agreement.specs.Demand.{firstFloor, Safety}
 use Rattle.agreement.proofs.History.{offered, Offered}
 use Rattle.agreement.proofs.Deliveries.{viewOf, owner-writes}
 use Rattle.agreement.proofs.Decisions.{decision-chosen, abort-refused}
 use Rattle.agreement.proofs.Reach.{reached-inv, Serving, New, new-floor}
-use Rattle.agreement.proofs.Positions.{up-to, history, caused, still-happened, size-at, RowOf, reached-at, means-at, row-at}
+use Rattle.agreement.proofs.Positions.{up-to, history, caused, still-happened, size-at, reached-at, means-at, row-at}
 
 module _ (f : Floor) (l : List (List ℕ)) where
   -- one number names one attempt

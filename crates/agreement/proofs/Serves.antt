@@ -14,8 +14,8 @@ use Rattle.register.specs.declared.StorageBox.{StorageBox}
 use Rattle.register.specs.declared.WriteDone.{WriteDone}
 use Rattle.register.proofs.RegisterLaws.{takes-means, takes-not}
 use Rattle.protocol.specs.Mask.{bit}
-use Rattle.protocol.specs.Trace.{Box, readBox, writeBox, read, issued, took, refused, Edit, there, other, Step, serve-read, take, refuse}
-use Rattle.floor.specs.State.{box0, row0, readSlot0, writeSlot0, boxAt, stationAt, rowAt, writeAt}
+use Rattle.protocol.specs.Trace.{Box, readBox, writeBox, read, took, refused, Edit, there, other, Step, serve-read, take, refuse}
+use Rattle.floor.specs.State.{box0, readSlot0, writeSlot0, boxAt, stationAt, rowAt, writeAt}
 use Rattle.floor.specs.Sound.{Sound}
 use Rattle.floor.specs.Effects.{withRegister, withWrites, rowServedRead}
 use Rattle.floor.specs.declared.Stage.the-variants.{Answered}

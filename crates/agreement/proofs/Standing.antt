@@ -1,10 +1,10 @@
 -- What the floor before a position is like, read off the list: rows in use, stopped boxes, and what a solo finish asks of its
 -- station.
-use Prim.Native.Nat.{ℕ, zero, suc, _+_, _<_}
+use Prim.Native.Nat.{ℕ, zero, suc, _<_}
 use native.Mathlib.Omega.{arith}
 use mathlib.Core.Path.{_≡_, refl, sym, ap, subst, _∙_}
 use mathlib.Core.Logic.{_⊎_, inl, inr}
-use mathlib.Core.Bool.{Bool, true, false}
+use mathlib.Core.Bool.{true}
 use mathlib.Core.List.{List, []}
 use lib.ListN.{getD}
 use borrow.Author.Tests.{eqb-true, eq-eqb}
@@ -106,9 +106,12 @@ module _ (f : Floor) (l : List (List ℕ)) (new : New f) where
       → ((isIn (stationAt (floorAt f l i) j .state) a ≡ true) × (¬ (saidAt f l i ≡ said.Aborted a))) ⊎ (saidAt f l i ≡ said.Begun a)
   unfolding floorAt stepOf
   still-in j a i e = elim (active-from (floorAt f l i) (commandAt l i) j a e) [
-    | inl o ↦ inl (o, λ q.
-    let own = own-row (reached-at f l new i .shows) j a o .1 in
-    clash e (ap (λ (k : ℕ). isIn (stationAt (floorAt f l (suc i)) k .state) a) (sym own) ∙ ap (λ (x : Station). isIn (x .state) a) (means-at f l new i (said.Aborted a) q .owner)))
+    | inl o ↦ inl (
+      o,
+      λ q.
+          let own = own-row (reached-at f l new i .shows) j a o .1 in
+          clash e (ap (λ (k : ℕ). isIn (stationAt (floorAt f l (suc i)) k .state) a) (sym own) ∙ ap (λ (x : Station). isIn (x .state) a) (means-at f l new i (said.Aborted a) q .owner)),
+    )
     | inr o ↦ inr o
   ]
 

@@ -1,3 +1,3 @@
 pub mod Words
-pub mod Claim
 pub mod Demand
+pub mod Consequences

@@ -1,5 +1,5 @@
 -- The words of demand 3. Document 01, "The list of demand 3": "Its words are read off the records and off what accepted steps
--- said". A step is named by its position in the list, from 0; earlier is `<`.
+-- said". A step is named by its position in the list, from 0, and earlier is `<`. Only `floorAt` and `shownAt` speak of the floor.
 use Prim.Native.Nat.{ℕ, zero, suc, _≤_, _<_}
 use mathlib.Core.Path.{_≡_}
 use mathlib.Core.Logic.{_⊎_}
@@ -7,7 +7,7 @@ use mathlib.Core.Bool.{Bool, true, false}
 use mathlib.Core.List.{List, []}
 use lib.ListN.{length, getD}
 use Rattle.base.specs.Numbers.{rankOf}
-use Rattle.protocol.specs.Quorum.{count, Majority}
+use Rattle.protocol.specs.Quorum.{count}
 use Rattle.floor.specs.State.{stationAt}
 use Rattle.floor.specs.Commands.{commandOf}
 use Rattle.floor.specs.Step.{stepOf}
@@ -39,7 +39,7 @@ isBegun (said.Stopped b) = false
 isBegun (said.Gone s) = false
 isBegun (said.Refused k) = false
 
--- the steps of the list l from the floor f
+-- The steps of the list l from the floor f.
 module _ (f : Floor) (l : List (List ℕ)) where
   -- "Each step is given the floor that the one before handed back, after a refused one too": the floor before the step at i
   unfoldable pub floorAt : ℕ → Floor
@@ -121,7 +121,7 @@ module _ (f : Floor) (l : List (List ℕ)) where
     pub decided : 0 < shownAt s i → Before (DecidesAt s (shownAt s i)) i
     pub none : shownAt s i ≡ 0 → (v : ℕ) → ¬ Before (DecidesAt s v) i
 
-  -- The premises of a solo finish before the position i. "A box answers if no accepted step stopped it."
+  -- What a solo finish is given, before the step at i. "A box answers if no accepted step stopped it."
   abbrev pub Answering : ℕ → ℕ → Type 0
   Answering i b = ¬ Before (λ k. saidAt k ≡ said.Stopped b) i
 
@@ -131,11 +131,11 @@ module _ (f : Floor) (l : List (List ℕ)) where
     pub undecided : (v : ℕ) → ¬ Before (DecidesAt s v) i
     pub aborted : (x : Attempt) → x .at < i → x .station ≡ s → Before (AbortsAt x) i
 
-  -- how many attempts were begun
+  -- how many attempts were begun before the step at i
   abbrev pub attemptsBefore : ℕ → ℕ
   attemptsBefore i = count (λ k. isBegun (saidAt k)) i
 
-  -- "a round left that outranks every attempt begun"
+  -- "a round left that outranks every attempt begun", by the station s
   pub record RoundLeft (s i : ℕ) : Type 0 where
     pub round : ℕ
     pub least : 1 ≤ round
