@@ -22,8 +22,8 @@ use Rattle.floor.proofs.Forms.{beginner, afterBegin}
 use Rattle.floor.proofs.View.{CanBegin}
 use Rattle.floor.proofs.Keeps.{Lengths, row-stored, station-stored}
 use Rattle.floor.proofs.Stores.{set-all, set-in, edit-set, getD-same}
-use Rattle.agreement.proofs.History.{offered, Happening, History, Unwritten, unwritten-more, isAnswered, isIssued, Paired, RowShows, seat-stored, seats-stored, Shows, row-more}
-use Rattle.agreement.proofs.Serves.{Goes}
+use Rattle.agreement.proofs.History.{offered, Happening, History, Unwritten, unwritten-more, isAnswered, isIssued, Paired, RowShows, station-kept-by, stations-stored, Shows, row-more}
+use Rattle.agreement.proofs.Serves.{StepTo}
 
 -- a request that waits has no answer
 abbrev Unread : ReadSlot → Type 0
@@ -113,9 +113,9 @@ module _ {f : Floor} {l : History} (s : Shows f l) (y : Lengths f) (z : Sound f)
   last-now : getD stations t station0 .last ≡ round
   last-now = ap (λ (x : Station). x .last) (station-stored f y z t (beginner f t round) (d .station))
 
-  pub begin-goes : Goes f l (afterBegin f t round v) event
+  pub begin-step : StepTo f l (afterBegin f t round v) event
   unfolding newRow
-  begin-goes = record {
+  begin-step = record {
     step = other-event (λ j. refl);
     shows = record {
       paired = s .paired;
@@ -127,9 +127,9 @@ module _ {f : Floor} {l : History} (s : Shows f l) (y : Lengths f) (z : Sound f)
           (λ k p h. le-trans (s .begun k (omega arith)) (last-up (rowAt f k .rank % 16)))
           (λ h. omega (arith, ap (λ (j : ℕ). getD stations j station0 .last) here, last-now, here));
       unbegun = λ r h. unwritten-more l r event (λ q. omega arith) (s .unbegun r (omega (arith, last-up (r % 16))));
-      seats = seats-stored (f .used + 1) rows (f .stations) t (beginner f t round) (omega (arith, y .stations, d .station, z .station-most))
-          (λ j p. seat-stored (f .used) (f .used + 1) (f .rows) (f .used) row j (stationAt f j .decided) (omega arith) (λ h. absurd (omega arith))
-          (stationAt f j .state) (s .seats j))
+      stations = stations-stored (f .used + 1) rows (f .stations) t (beginner f t round) (omega (arith, y .stations, d .station, z .station-most))
+          (λ j p. station-kept-by (f .used) (f .used + 1) (f .rows) (f .used) row j (stationAt f j .decided) (omega arith) (λ h. absurd (omega arith))
+          (stationAt f j .state) (s .stations j))
           (omega arith, ap (λ (w : Row). w .station) stored, ap (λ (w : Row). w .written) stored);
     };
   }

@@ -20,7 +20,7 @@ use Rattle.floor.proofs.View.{CanDeliver}
 use Rattle.floor.proofs.Keeps.{Lengths}
 use Rattle.floor.proofs.Answers.{quorum-majority, taken-means, taken-not}
 use Rattle.agreement.proofs.History.{quiet, History, isAnswered, RowShows, Shows, row-more}
-use Rattle.agreement.proofs.Serves.{Goes}
+use Rattle.agreement.proofs.Serves.{StepTo}
 use Rattle.agreement.proofs.Deliveries.{viewOf, write-heard-row, row-heard, owner-writes, row-moved}
 
 module _ {f : Floor} {l : History} (s : Shows f l) (a b : ℕ) (d : CanDeliver f true a b) where
@@ -44,19 +44,21 @@ module _ {f : Floor} {l : History} (s : Shows f l) (a b : ℕ) (d : CanDeliver f
       let m = taken-not (w .writes) (w .writers) (f .n) t in
       (m .0, shown .writes .refusal (m .0) (shown .writes .received (m .0) (m .2)) (m .3), λ o. clash (shown .writes .only (m .0) o .1) (m .3))
 
-  module _ (y : Lengths f) (z : Sound f) where
-    pub write-heard-goes : Goes f l (withRow f a w) (note quiet)
-    write-heard-goes = row-heard s y z a (d .used) w refl refl refl shown
+-- what it leads to
+module _ {f : Floor} {l : History} (s : Shows f l) (y : Lengths f) (z : Sound f) (a b : ℕ) (d : CanDeliver f true a b) where
+  pub write-heard-step : StepTo f l (withRow f a (writeHeard f a b)) (note quiet)
+  write-heard-step = row-heard s y z a (d .used) (writeHeard f a b) refl refl refl (shown s a b d)
 
-    pub decision-goes : isWriting (ownerAt f a .state) a ≡ true → Goes f l (afterDecision f a w) (note quiet)
-    decision-goes r = record {
-      step = other-event (λ j. refl);
-      shows = row-moved s y z a (d .used) w refl (decider f a w) refl (note quiet) (λ k e. absurd (omega arith)) (row-more (note quiet) (λ e. omega arith) shown)
-          (owner-writes s a (d .used) r);
-    }
+  pub decision-step : isWriting (ownerAt f a .state) a ≡ true → StepTo f l (afterDecision f a (writeHeard f a b)) (note quiet)
+  decision-step r = record {
+    step = other-event (λ j. refl);
+    shows = row-moved s y z a (d .used) (writeHeard f a b) refl (decider f a (writeHeard f a b)) refl (note quiet) (λ k e. absurd (omega arith))
+        (row-more (note quiet) (λ e. omega arith) (shown s a b d)) (owner-writes s a (d .used) r);
+  }
 
-    pub abort-goes : Goes f l (afterAbort f a w) (note quiet)
-    abort-goes = record {
-      step = other-event (λ j. refl);
-      shows = row-moved s y z a (d .used) w refl (withState (ownerAt f a) Idle) refl (note quiet) (λ k e. absurd (omega arith)) (row-more (note quiet) (λ e. omega arith) shown) tt;
-    }
+  pub abort-step : StepTo f l (afterAbort f a (writeHeard f a b)) (note quiet)
+  abort-step = record {
+    step = other-event (λ j. refl);
+    shows = row-moved s y z a (d .used) (writeHeard f a b) refl (withState (ownerAt f a) Idle) refl (note quiet) (λ k e. absurd (omega arith))
+        (row-more (note quiet) (λ e. omega arith) (shown s a b d)) tt;
+  }

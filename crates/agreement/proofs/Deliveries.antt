@@ -20,8 +20,8 @@ use Rattle.floor.specs.declared.Floor.{Floor}
 use Rattle.floor.proofs.Standings.{is-reading, is-writing}
 use Rattle.floor.proofs.Forms.{withStation, withRow, ownerAt}
 use Rattle.floor.proofs.Keeps.{Lengths}
-use Rattle.agreement.proofs.History.{quiet, Happening, History, Offered, boxesOf, writerOf, isAnswered, RowShows, Seat, seat-stored, seats-stored, last-stored, Shows, row-more, shows-stored}
-use Rattle.agreement.proofs.Serves.{Goes, seats-kept}
+use Rattle.agreement.proofs.History.{quiet, Happening, History, Offered, boxesOf, writerOf, isAnswered, RowShows, StationShows, station-kept-by, stations-stored, last-stored, Shows, row-more, shows-stored}
+use Rattle.agreement.proofs.Serves.{StepTo, stations-kept}
 
 -- what has happened, as the theory sees it
 abbrev pub viewOf : Floor → History → View ℕ
@@ -65,31 +65,31 @@ module _ {f : Floor} {l : History} (s : Shows f l) (a : ℕ) (ha : a < f .used) 
   place : rowAt f a .station < 16
   place = omega (arith, s .rows a ha .place)
 
-  owner-seat : (p : Phase) → ownerAt f a .state ≡ p → Seat (f .used) (f .rows) (rowAt f a .station) (ownerAt f a .decided) p
-  owner-seat p e = subst (Seat (f .used) (f .rows) (rowAt f a .station) (ownerAt f a .decided)) e (s .seats (rowAt f a .station))
+  owner-shows : (p : Phase) → ownerAt f a .state ≡ p → StationShows (f .used) (f .rows) (rowAt f a .station) (ownerAt f a .decided) p
+  owner-shows p e = subst (StationShows (f .used) (f .rows) (rowAt f a .station) (ownerAt f a .decided)) e (s .stations (rowAt f a .station))
 
   pub owner-reads : isReading (ownerAt f a .state) a ≡ true → rowAt f a .written ≡ 0
-  owner-reads e = owner-seat (Reading a) (is-reading (ownerAt f a .state) a e) .2
+  owner-reads e = owner-shows (Reading a) (is-reading (ownerAt f a .state) a e) .2
 
   pub owner-writes : isWriting (ownerAt f a .state) a ≡ true → 0 < rowAt f a .written
-  owner-writes e = owner-seat (Writing a) (is-writing (ownerAt f a .state) a e) .2
+  owner-writes e = owner-shows (Writing a) (is-writing (ownerAt f a .state) a e) .2
 
 module _ {f : Floor} {l : History} (s : Shows f l) (y : Lengths f) (z : Sound f) (a : ℕ) (ha : a < f .used) where
   -- row a becomes w, which shows the same history, and nothing is noted
-  pub row-heard : (w : Row) → w .rank ≡ rowAt f a .rank → w .station ≡ rowAt f a .station → w .written ≡ rowAt f a .written → RowShows w l → Goes f l (withRow f a w) (note quiet)
+  pub row-heard : (w : Row) → w .rank ≡ rowAt f a .rank → w .station ≡ rowAt f a .station → w .written ≡ rowAt f a .written → RowShows w l → StepTo f l (withRow f a w) (note quiet)
   row-heard w p q v r = record {
     step = other-event (λ j. refl);
     shows = shows-stored s (note quiet) (f .boxes) (f .stations) (s .paired) (λ j. refl)
-        y a ha (z .rows-most) w p (λ k e. absurd (omega arith)) (row-more (note quiet) (λ e. omega arith) r) (seats-kept s a w q v);
+        y a ha (z .rows-most) w p (λ k e. absurd (omega arith)) (row-more (note quiet) (λ e. omega arith) r) (stations-kept s a w q v);
   }
 
   -- row a becomes w, and its station t, with the same last round
   module _ (w : Row) (rank : w .rank ≡ rowAt f a .rank) (t : Station) (last : t .last ≡ ownerAt f a .last) where
     pub row-moved : (e : Happening) → ((r : ℕ) → writerOf e ≡ suc r → r ≡ rowAt f a .rank) → RowShows w (e ∷ l)
-        → Seat (f .used) (set (f .rows) a w) (rowAt f a .station) (t .decided) (t .state)
+        → StationShows (f .used) (set (f .rows) a w) (rowAt f a .station) (t .decided) (t .state)
         → Shows (withStation (withRow f a w) (rowAt f a .station) t) (e ∷ l)
     row-moved e own r seat =
         shows-stored s e (f .boxes) _ (s .paired) (last-stored (f .stations) (rowAt f a .station) t last) y a ha (z .rows-most) w rank own r
-        (seats-stored (f .used) (set (f .rows) a w) (f .stations) (rowAt f a .station) t (omega (arith, y .stations, place s a ha))
-        (λ j p. seat-stored (f .used) (f .used) (f .rows) a w j (stationAt f j .decided) (le-refl (f .used)) (λ _ h. absurd (p (sym h))) (stationAt f j .state) (s .seats j))
+        (stations-stored (f .used) (set (f .rows) a w) (f .stations) (rowAt f a .station) t (omega (arith, y .stations, place s a ha))
+        (λ j p. station-kept-by (f .used) (f .used) (f .rows) a w j (stationAt f j .decided) (le-refl (f .used)) (λ _ h. absurd (p (sym h))) (stationAt f j .state) (s .stations j))
         seat)

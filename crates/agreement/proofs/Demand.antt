@@ -1,12 +1,11 @@
 -- Demand 3, for every list of records and any n and m.
-use Prim.Native.Nat.{ℕ, zero, suc, _+_, _*_, _≤_, _<_}
+use Prim.Native.Nat.{ℕ, zero, suc, _+_, _≤_, _<_}
 use native.Mathlib.Omega.{arith}
 use mathlib.Core.Path.{_≡_, refl, sym, ap, subst, _∙_}
 use mathlib.Core.Bool.{false}
 use mathlib.Core.List.{List, [], _∷_, _++_}
 use lib.ListN.{length, getD, take}
 use lib.Seq.{getD-take, getD-append-add}
-use Rattle.base.specs.Numbers.{quorum}
 use Rattle.protocol.proofs.QuorumLaws.{at-least-map}
 use Rattle.floor.specs.State.{rowAt}
 use Rattle.floor.specs.Rows.{newRow}

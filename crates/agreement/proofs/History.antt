@@ -79,13 +79,14 @@ abbrev pub Paired : ℕ → ℕ → Type 0
 Paired w x = (w ≡ 0 → x ≡ 0) × (0 < w → 0 < x)
 
 -- The relation, part by part. Its parameters are values and not places of the floor, so that what a step leaves alone is handed on as
--- it is. The reads of a row: an answer received is there, and each answer was given.
+-- it is. The reads of a row: what was received was answered, and each answer was given at that box.
 pub record ReadsShow (rank : ℕ) (reads : List ReadSlot) (readers : ℕ) (l : History) : Type 0 where
   pub received : (b : ℕ) → bit readers b ≡ true → isAnswered (getD reads b readSlot0 .stage) ≡ true
   pub answered : (b : ℕ) → isAnswered (getD reads b readSlot0 .stage) ≡ true → List·Memᴰ (read rank b (getD reads b readSlot0 .rank) (getD reads b readSlot0 .value)) l
   pub paired : (b : ℕ) → Paired (getD reads b readSlot0 .rank) (getD reads b readSlot0 .value)
 
--- The writes of a row: they carry the revision that was issued, and each answer was given; no other write of this rank was taken.
+-- The writes of a row: they were issued with the row's revision, and each answer was given at that box; no other write of this rank
+-- was taken.
 pub record WritesShow (rank written : ℕ) (writes : List WriteSlot) (writers : ℕ) (l : History) : Type 0 where
   pub received : (b : ℕ) → bit writers b ≡ true → isAnswered (getD writes b writeSlot0 .stage) ≡ true
   pub after-issue : (b : ℕ) → isIssued (getD writes b writeSlot0 .stage) ≡ true → 0 < written
@@ -104,21 +105,22 @@ pub record RowShows (w : Row) (l : History) : Type 0 where
   pub writes : WritesShow (w .rank) (w .written) (w .writes) (w .writers) l
 
 -- The station j that shows the decided revision v: where it reads or writes, it is in a row in use of its own.
-abbrev pub Seat : ℕ → List Row → ℕ → ℕ → Phase → Type 0
-Seat used rows j v Idle = Unit {0}
-Seat used rows j v (Reading a) = (a < used) × (getD rows a row0 .station ≡ j) × (getD rows a row0 .written ≡ 0)
-Seat used rows j v (Writing a) = (a < used) × (getD rows a row0 .station ≡ j) × (0 < getD rows a row0 .written)
-Seat used rows j v (Decided a) = 0 < v
-Seat used rows j v Gone = Unit {0}
+abbrev pub StationShows : ℕ → List Row → ℕ → ℕ → Phase → Type 0
+StationShows used rows j v Idle = Unit {0}
+StationShows used rows j v (Reading a) = (a < used) × (getD rows a row0 .station ≡ j) × (getD rows a row0 .written ≡ 0)
+StationShows used rows j v (Writing a) = (a < used) × (getD rows a row0 .station ≡ j) × (0 < getD rows a row0 .written)
+StationShows used rows j v (Decided a) = 0 < v
+StationShows used rows j v Gone = Unit {0}
 
--- A rank not above its station's last round was begun, and rows have ranks of their own; above it nothing was written.
+-- What a floor shows of its history. Rows have ranks of their own, none above its station's last round; above that round nothing was
+-- written yet.
 pub record Shows (f : Floor) (l : History) : Type 0 where
   pub paired : (b : ℕ) → Paired (boxAt f b .register .write) (boxAt f b .register .value)
   pub rows : (a : ℕ) → a < f .used → RowShows (rowAt f a) l
   pub distinct : (a c : ℕ) → a < f .used → c < f .used → rowAt f a .rank ≡ rowAt f c .rank → a ≡ c
   pub begun : (a : ℕ) → a < f .used → rowAt f a .rank / 16 ≤ stationAt f (rowAt f a .rank % 16) .last
   pub unbegun : (r : ℕ) → stationAt f (r % 16) .last < r / 16 → Unwritten l r
-  pub seats : (j : ℕ) → Seat (f .used) (f .rows) j (stationAt f j .decided) (stationAt f j .state)
+  pub stations : (j : ℕ) → StationShows (f .used) (f .rows) j (stationAt f j .decided) (stationAt f j .state)
 
 -- one event more
 module _ {l : History} (e : Happening) where
@@ -156,18 +158,18 @@ module _ (used k : ℕ) (rows : List Row) (a : ℕ) (w : Row) (j v : ℕ) (up : 
   kept : (i : ℕ) → Kept i (getD (set rows a w) i row0)
   kept = set-all row0 Kept rows a w (λ i h e. (e, refl)) same
 
-  pub seat-stored : (p : Phase) → Seat used rows j v p → Seat k (set rows a w) j v p
-  seat-stored Idle s = tt
-  seat-stored (Reading i) s = let o = kept i (s .0) (s .1) in (omega (arith, s .0), o .0, o .1 ∙ s .2)
-  seat-stored (Writing i) s = let o = kept i (s .0) (s .1) in (omega (arith, s .0), o .0, omega (arith, o .1, s .2))
-  seat-stored (Decided i) s = s
-  seat-stored Gone s = tt
+  pub station-kept-by : (p : Phase) → StationShows used rows j v p → StationShows k (set rows a w) j v p
+  station-kept-by Idle s = tt
+  station-kept-by (Reading i) s = let o = kept i (s .0) (s .1) in (omega (arith, s .0), o .0, o .1 ∙ s .2)
+  station-kept-by (Writing i) s = let o = kept i (s .0) (s .1) in (omega (arith, s .0), o .0, omega (arith, o .1, s .2))
+  station-kept-by (Decided i) s = s
+  station-kept-by Gone s = tt
 
 -- a station is stored
-pub seats-stored : (used : ℕ) (rows : List Row) (ss : List Station) (t : ℕ) (y : Station) → t < length ss
-    → ((j : ℕ) → ¬ (j ≡ t) → Seat used rows j (getD ss j station0 .decided) (getD ss j station0 .state)) → Seat used rows t (y .decided) (y .state)
-    → (j : ℕ) → Seat used rows j (getD (set ss t y) j station0 .decided) (getD (set ss t y) j station0 .state)
-seats-stored used rows ss t y h = set-in station0 (λ (j : ℕ) (x : Station). Seat used rows j (x .decided) (x .state)) ss t y h
+pub stations-stored : (used : ℕ) (rows : List Row) (ss : List Station) (t : ℕ) (y : Station) → t < length ss
+    → ((j : ℕ) → ¬ (j ≡ t) → StationShows used rows j (getD ss j station0 .decided) (getD ss j station0 .state)) → StationShows used rows t (y .decided) (y .state)
+    → (j : ℕ) → StationShows used rows j (getD (set ss t y) j station0 .decided) (getD (set ss t y) j station0 .state)
+stations-stored used rows ss t y h = set-in station0 (λ (j : ℕ) (x : Station). StationShows used rows j (x .decided) (x .state)) ss t y h
 
 -- a station is replaced by one with the same last round
 pub last-stored : (ss : List Station) (t : ℕ) (y : Station) → y .last ≡ getD ss t station0 .last → (j : ℕ) → getD (set ss t y) j station0 .last ≡ getD ss j station0 .last
@@ -178,15 +180,15 @@ module _ {f : Floor} {l : History} (s : Shows f l) (e : Happening) (bs : List St
     (paired : (b : ℕ) → Paired (getD bs b box0 .register .write) (getD bs b box0 .register .value))
     (last : (j : ℕ) → getD ss j station0 .last ≡ stationAt f j .last) where
   -- nothing is written, and the rows stay
-  pub shows-kept : writerOf e ≡ 0 → ((j : ℕ) → Seat (f .used) (f .rows) j (getD ss j station0 .decided) (getD ss j station0 .state))
+  pub shows-kept : writerOf e ≡ 0 → ((j : ℕ) → StationShows (f .used) (f .rows) j (getD ss j station0 .decided) (getD ss j station0 .state))
       → Shows (record { n = f .n; m = f .m; used = f .used; boxes = bs; stations = ss; rows = f .rows }) (e ∷ l)
-  shows-kept silent seats = record {
+  shows-kept silent stations = record {
     paired = paired;
     rows = λ a h. row-more e (λ q. omega arith) (s .rows a h);
     distinct = s .distinct;
     begun = λ a h. rw (last (rowAt f a .rank % 16)) (s .begun a h);
     unbegun = λ r h. unwritten-more l r e (λ q. omega arith) (s .unbegun r (rw (last (r % 16)) at h));
-    seats = seats;
+    stations = stations;
   }
 
   -- the row a is stored with its rank, and nothing is written at any other rank
@@ -199,14 +201,14 @@ module _ {f : Floor} {l : History} (s : Shows f l) (e : Happening) (bs : List St
     not-unbegun : (r : ℕ) → stationAt f (r % 16) .last < r / 16 → ¬ (writerOf e ≡ suc r)
     not-unbegun r h q = omega (arith, subst (λ (k : ℕ). stationAt f (k % 16) .last < k / 16) (own r q) h, s .begun a ha)
 
-    pub shows-stored : RowShows w (e ∷ l) → ((j : ℕ) → Seat (f .used) (set (f .rows) a w) j (getD ss j station0 .decided) (getD ss j station0 .state))
+    pub shows-stored : RowShows w (e ∷ l) → ((j : ℕ) → StationShows (f .used) (set (f .rows) a w) j (getD ss j station0 .decided) (getD ss j station0 .state))
         → Shows (record { n = f .n; m = f .m; used = f .used; boxes = bs; stations = ss; rows = set (f .rows) a w }) (e ∷ l)
-    shows-stored new seats = record {
+    shows-stored new stations = record {
       paired = paired;
       rows = set-in row0 (λ (k : ℕ) (x : Row). k < f .used → RowShows x (e ∷ l)) (f .rows) a w (omega (arith, y .rows))
           (λ k p h. row-more e (λ q. p (s .distinct k a h ha (own (rowAt f k .rank) q))) (s .rows k h)) (λ h. new);
       distinct = λ i j hi hj q. s .distinct i j hi hj (sym (rank-kept i) ∙ q ∙ rank-kept j);
       begun = λ k h. rw (rank-kept k, last (rowAt f k .rank % 16)) (s .begun k h);
       unbegun = λ r h. let o = rw (last (r % 16)) at h in unwritten-more l r e (not-unbegun r o) (s .unbegun r o);
-      seats = seats;
+      stations = stations;
     }

@@ -30,7 +30,7 @@ use Rattle.floor.proofs.Keeps.{Lengths, used-stored}
 use Rattle.floor.proofs.Stores.{set-all}
 use Rattle.floor.proofs.Answers.{quorum-majority, Found, nothing, highest, best-found, revision-offer, revision-value, revision-either}
 use Rattle.agreement.proofs.History.{quiet, History, isAnswered, isIssued, RowShows, Shows, reads-more}
-use Rattle.agreement.proofs.Serves.{Goes}
+use Rattle.agreement.proofs.Serves.{StepTo}
 use Rattle.agreement.proofs.Deliveries.{viewOf, read-heard-row, row-heard, owner-reads, row-moved}
 
 -- a write request that waits is not answered
@@ -53,8 +53,8 @@ module _ {f : Floor} {l : History} (s : Shows f l) (y : Lengths f) (z : Sound f)
   shown : RowShows w l
   shown = read-heard-row (s .rows a (d .used)) b (ap isAnswered (arrives-means (readAt (rowAt f a) b .stage) (rowAt f a .readers) b (d .arrives) .0))
 
-  pub read-heard-goes : Goes f l (withRow f a w) (note quiet)
-  read-heard-goes = row-heard s y z a (d .used) w refl refl refl shown
+  pub read-heard-step : StepTo f l (withRow f a w) (note quiet)
+  read-heard-step = row-heard s y z a (d .used) w refl refl refl shown
 
   module _ (reads : isReading (ownerAt f a .state) a ≡ true) (q : atQuorum (w .readers) (f .n) ≡ true) where
     read-of : (j : ℕ) → bit (w .readers) j ≡ true → List·Memᴰ (read (w .rank) j (readAt w j .rank) (readAt w j .value)) l
@@ -128,9 +128,9 @@ module _ {f : Floor} {l : History} (s : Shows f l) (y : Lengths f) (z : Sound f)
     stored : getD (set (f .rows) a (rows.issued w value (f .n))) a row0 ≡ rows.issued w value (f .n)
     stored = used-stored f y z a (rows.issued w value (f .n)) (d .used)
 
-    pub issue-goes : Goes f l (afterIssue f a w value) (issued (w .rank) value)
+    pub issue-step : StepTo f l (afterIssue f a w value) (issued (w .rank) value)
     unfolding rows.issued
-    issue-goes = record {
+    issue-step = record {
       step = issue (λ j. refl) value-allowed (λ u m. absurd (shown .writes .unwritten unwritten (issued (w .rank) u) m refl));
       shows = row-moved s y z a (d .used) (rows.issued w value (f .n)) refl (withState (ownerAt f a) (Writing a)) refl
           (issued (w .rank) value) (λ r e. omega arith) issued-row

@@ -28,6 +28,13 @@ use Rattle.agreement.proofs.Reach.{eventOf, Reached, reached-next, Caus
 pub up-to : {c k : ℕ} → c < suc k → (c ≡ k) ⊎ (c < k)
 up-to h = eq-or-lt-of-le (omega arith)
 
+-- what held before i, and what holds at i, held before suc i
+pub later : {P : ℕ → Type 0} {i : ℕ} → Before P i → Before P (suc i)
+later x = record { at = x .at; earlier = omega (arith, x .earlier); holds = x .holds }
+
+pub now : {P : ℕ → Type 0} (i : ℕ) → P i → Before P (suc i)
+now i p = record { at = i; earlier = omega arith; holds = p }
+
 -- a row that is in use after a step and was not before was begun by it
 begun-then : {f : Floor} {c : Command} {s : Stepped} → StepView f c s → (a : ℕ) → ¬ (a < f .used) → a < s .floor .used → s .outcome ≡ said.Begun a
 begun-then (turned k t) a h u = absurd (h u)
@@ -57,10 +64,7 @@ module _ (f : Floor) (l : List (List ℕ)) where
   happened : (e : Happening) (i : ℕ) → List·Memᴰ e (history i) → Before (λ k. e ≡ eventAt k) i
   unfolding history
   happened e zero m = absurd (List·Memᴰ·not-nil m)
-  happened e (suc i) m = elim (List·Memᴰ·cases-cons m) [
-    | inl q ↦ record { at = i; earlier = omega arith; holds = q }
-    | inr o ↦ (let x = happened e i o in record { at = x .at; earlier = omega (arith, x .earlier); holds = x .holds })
-  ]
+  happened e (suc i) m = elim (List·Memᴰ·cases-cons m) [ inl q ↦ now i q | inr o ↦ later (happened e i o) ]
 
   -- what an event before i came of
   pub caused : (e : Happening) (i : ℕ) → List·Memᴰ e (history i) → Before (λ k. Cause (floorAt f l k) (commandAt l k) (saidAt f l k) e) i

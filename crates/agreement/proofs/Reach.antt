@@ -31,14 +31,14 @@ use Rattle.floor.proofs.View.{CanLeave, StepView, turned, began, read-served, w
 use Rattle.floor.proofs.View as view
 use Rattle.floor.proofs.Keeps.{Lengths, empty-lengths}
 use Rattle.floor.proofs.Stores.{set-all, getD-same}
-use Rattle.agreement.proofs.History.{offered, quiet, Happening, History, Offered, offered-stays, toBox, boxesOf, Paired, seats-stored, last-stored, Shows, shows-kept}
-use Rattle.agreement.proofs.Serves.{Goes, readEvent, wroteEvent, writeEvent, serve-read-goes, serve-write-goes}
+use Rattle.agreement.proofs.History.{offered, quiet, Happening, History, Offered, offered-stays, toBox, boxesOf, stations-stored, last-stored, Shows, shows-kept}
+use Rattle.agreement.proofs.Serves.{StepTo, boxes-paired, readEvent, wroteEvent, writeEvent, serve-read-step, serve-write-step}
 use Rattle.agreement.proofs.Deliveries.{viewOf}
-use Rattle.agreement.proofs.Issues.{read-heard-goes, issue-goes}
-use Rattle.agreement.proofs.Decisions.{write-heard-goes, decision-goes, abort-goes}
-use Rattle.agreement.proofs.Begins.{begin-goes}
+use Rattle.agreement.proofs.Issues.{read-heard-step, issue-step}
+use Rattle.agreement.proofs.Decisions.{write-heard-step, decision-step, abort-step}
+use Rattle.agreement.proofs.Begins.{begin-step}
 
--- what happens at a step
+-- What happens at a step. Only serves, issues and begins leave a trace in the history; every other step, refused ones too, is quiet.
 abbrev pub eventOf : {f : Floor} {c : Command} {s : Stepped} → StepView f c s → Happening
 eventOf (turned k t) = note quiet
 eventOf (began {v = v} z d) = note (offered v)
@@ -61,41 +61,41 @@ pub record Reached (f : Floor) (l : History) : Type 0 where
 pub reached-inv : {f : Floor} {l : History} → Reached f l → Inv (f .n) _≡_ (viewOf f l)
 reached-inv {f} k = run-inv (f .n) _≡_ Offered (equality .transitive) offered-stays (k .run)
 
--- the rows stay, and nothing is noted
+-- a step that leaves the rows as they are
 module _ {f : Floor} {l : History} (s : Shows f l) where
-  refused-goes : Goes f l f (note quiet)
-  refused-goes = record { step = other-event (λ j. refl); shows = shows-kept s (note quiet) (f .boxes) (f .stations) (s .paired) (λ j. refl) refl (s .seats) }
+  refused-step : StepTo f l f (note quiet)
+  refused-step = record { step = other-event (λ j. refl); shows = shows-kept s (note quiet) (f .boxes) (f .stations) (s .paired) (λ j. refl) refl (s .stations) }
 
-  stop-goes : (b : ℕ) → Goes f l (afterStop f b) (note quiet)
-  stop-goes b = record {
+  stop-step : (b : ℕ) → StepTo f l (afterStop f b) (note quiet)
+  stop-step b = record {
     step = other-event (set-all box0 (λ (j : ℕ) (x : StorageBox). toBox x ≡ boxesOf f j) (f .boxes) b _ (λ j. refl) refl);
-    shows = shows-kept s (note quiet) _ (f .stations)
-        (set-all box0 (λ (j : ℕ) (x : StorageBox). Paired (x .register .write) (x .register .value)) (f .boxes) b _ (s .paired) (s .paired b)) (λ j. refl) refl (s .seats);
+    shows = shows-kept s (note quiet) _ (f .stations) (boxes-paired s b (record { register = boxAt f b .register; stopped = true }) (s .paired b)) (λ j. refl) refl (s .stations);
   }
 
-  leave-goes : Lengths f → Sound f → (j : ℕ) → CanLeave f j → Goes f l (afterLeave f j) (note quiet)
-  leave-goes y z j d = record {
+  leave-step : Lengths f → Sound f → (j : ℕ) → CanLeave f j → StepTo f l (afterLeave f j) (note quiet)
+  leave-step y z j d = record {
     step = other-event (λ i. refl);
     shows = shows-kept s (note quiet) (f .boxes) _ (s .paired) (last-stored (f .stations) j (withState (stationAt f j) phase.Gone) refl) refl
-        (seats-stored (f .used) (f .rows) (f .stations) j (withState (stationAt f j) phase.Gone) (omega (arith, y .stations, d .station, z .station-most))
-        (λ i p. s .seats i) tt);
+        (stations-stored (f .used) (f .rows) (f .stations) j (withState (stationAt f j) phase.Gone) (omega (arith, y .stations, d .station, z .station-most))
+        (λ i p. s .stations i) tt);
   }
 
-goes : {f : Floor} {l : History} {c : Command} {s : Stepped} → Shows f l → Lengths f → (x : StepView f c s) → Goes f l (s .floor) (eventOf x)
-goes w y (turned k t) = refused-goes w
-goes w y (began {s = s} {round = r} {v = v} z d) = begin-goes w y z s r v d
-goes w y (read-served {a = a} {b = b} z d) = serve-read-goes w y z a b d
-goes w y (write-served {a = a} {b = b} z d) = serve-write-goes w y z a b d
-goes w y (read-heard {a = a} {b = b} z d q) = read-heard-goes w y z a b d
-goes w y (view.issued {a = a} {b = b} z d r q) = issue-goes w y z a b d r q
-goes w y (write-heard {a = a} {b = b} z d q) = write-heard-goes w a b d y z
-goes w y (decided {a = a} {b = b} z d r q t) = decision-goes w a b d y z r
-goes w y (aborted {a = a} {b = b} z d r q t) = abort-goes w a b d y z
-goes w y (stopped {b = b} z d) = stop-goes w b
-goes w y (left {s = s} z d) = leave-goes w y z s d
+-- each kind of step
+step-to : {f : Floor} {l : History} {c : Command} {s : Stepped} → Shows f l → Lengths f → (x : StepView f c s) → StepTo f l (s .floor) (eventOf x)
+step-to w y (turned k t) = refused-step w
+step-to w y (began {s = s} {round = r} {v = v} z d) = begin-step w y z s r v d
+step-to w y (read-served {a = a} {b = b} z d) = serve-read-step w y z a b d
+step-to w y (write-served {a = a} {b = b} z d) = serve-write-step w y z a b d
+step-to w y (read-heard {a = a} {b = b} z d q) = read-heard-step w y z a b d
+step-to w y (view.issued {a = a} {b = b} z d r q) = issue-step w y z a b d r q
+step-to w y (write-heard {a = a} {b = b} z d q) = write-heard-step w y z a b d
+step-to w y (decided {a = a} {b = b} z d r q t) = decision-step w y z a b d r
+step-to w y (aborted {a = a} {b = b} z d r q t) = abort-step w y z a b d
+step-to w y (stopped {b = b} z d) = stop-step w b
+step-to w y (left {s = s} z d) = leave-step w y z s d
 
 pub reached-next : {f : Floor} {l : History} {c : Command} {s : Stepped} → Reached f l → (x : StepView f c s) → Lengths (s .floor) → s .floor .n ≡ f .n → Reached (s .floor) (eventOf x ∷ l)
-reached-next {l = l} {s = s} k x y n = let g = goes (k .shows) (k .lengths) x in record {
+reached-next {l = l} {s = s} k x y n = let g = step-to (k .shows) (k .lengths) x in record {
   lengths = y;
   run = subst (λ (i : ℕ). Run i _≡_ Offered (boxesOf (s .floor)) (eventOf x ∷ l)) (sym n) (next (k .run) (g .step));
   shows = g .shows;
@@ -165,6 +165,6 @@ new-reached {f} x = record {
     distinct = λ a c h. absurd (omega (arith, x .unused));
     begun = λ a h. absurd (omega (arith, x .unused));
     unbegun = λ r h e m. absurd (List·Memᴰ·not-nil m);
-    seats = λ j. rw (x .stations j) tt;
+    stations = λ j. rw (x .stations j) tt;
   };
 }

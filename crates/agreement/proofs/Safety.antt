@@ -25,7 +25,7 @@ use Rattle.agreement.proofs.History.{offered, Offered}
 use Rattle.agreement.proofs.Deliveries.{viewOf, owner-writes}
 use Rattle.agreement.proofs.Decisions.{decision-chosen, abort-refused}
 use Rattle.agreement.proofs.Reach.{reached-inv, Serving, New, new-floor}
-use Rattle.agreement.proofs.Positions.{up-to, history, caused, still-happened, size-at, reached-at, means-at, row-at}
+use Rattle.agreement.proofs.Positions.{up-to, later, now, history, caused, still-happened, size-at, reached-at, means-at, row-at}
 
 module _ (f : Floor) (l : List (List ℕ)) where
   -- one number names one attempt
@@ -142,10 +142,8 @@ module _ (f : Floor) (l : List (List ℕ)) where
     unfolding floorAt stepOf
     shown-decided s zero h = absurd (omega (arith, ap (λ (x : Station). x .decided) (new .stations s)))
     shown-decided s (suc i) h = elim (decided-from (floorAt f l i) (commandAt l i) s) [
-      | inl e ↦ (
-          let x = shown-decided s i (omega arith) in
-          record { at = x .at; earlier = omega (arith, x .earlier); holds = subst (λ (v : ℕ). DecidesAt f l s v (x .at)) (sym e) (x .holds) })
-      | inr d ↦ record { at = i; earlier = omega arith; holds = decides-at i s _ (d .attempt) (d .box) (d .command) (d .used) (d .owner) (d .outcome) }
+      | inl e ↦ subst (λ (v : ℕ). Before (DecidesAt f l s v) (suc i)) (sym e) (later (shown-decided s i (omega arith)))
+      | inr d ↦ now i (decides-at i s _ (d .attempt) (d .box) (d .command) (d .used) (d .owner) (d .outcome))
     ]
 
     -- the step by which the station s decides v: its row, and the station after it

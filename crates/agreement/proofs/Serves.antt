@@ -28,10 +28,10 @@ use Rattle.floor.proofs.Forms.{withBox, withRow, afterServeRead, afterServeWrit
 use Rattle.floor.proofs.View.{CanServe}
 use Rattle.floor.proofs.Keeps.{Lengths}
 use Rattle.floor.proofs.Stores.{set-all, set-in, edit-set}
-use Rattle.agreement.proofs.History.{Happening, History, Offered, toBox, boxesOf, writerOf, isAnswered, isIssued, Paired, RowShows, Seat, seat-stored, Shows, reads-more, writes-more, shows-stored}
+use Rattle.agreement.proofs.History.{Happening, History, Offered, toBox, boxesOf, writerOf, isAnswered, isIssued, Paired, RowShows, StationShows, station-kept-by, Shows, reads-more, writes-more, shows-stored}
 
 -- From the floor f with the history l to the floor g with the event e.
-pub record Goes (f : Floor) (l : History) (g : Floor) (e : Happening) : Type 0 where
+pub record StepTo (f : Floor) (l : History) (g : Floor) (e : Happening) : Type 0 where
   pub step : Step (f .n) _≡_ Offered (boxesOf f) l (boxesOf g) e
   pub shows : Shows g (e ∷ l)
 
@@ -43,15 +43,15 @@ box-edit f b x h y g e j = elim (edit-set box0 (f .boxes) b x (omega (arith, y .
   | other p q ↦ other p (ap toBox q)
 ]
 
-boxes-paired : {f : Floor} {l : History} → Shows f l → (b : ℕ) (x : StorageBox) → Paired (x .register .write) (x .register .value) → (j : ℕ)
+pub boxes-paired : {f : Floor} {l : History} → Shows f l → (b : ℕ) (x : StorageBox) → Paired (x .register .write) (x .register .value) → (j : ℕ)
     → Paired (getD (set (f .boxes) b x) j box0 .register .write) (getD (set (f .boxes) b x) j box0 .register .value)
 boxes-paired {f} s b x p = set-all box0 (λ (j : ℕ) (c : StorageBox). Paired (c .register .write) (c .register .value)) (f .boxes) b x (s .paired) p
 
 -- a row is stored that has the same station and has written as much: the stations stay where they are
-pub seats-kept : {f : Floor} {l : History} → Shows f l → (a : ℕ) (w : Row) → w .station ≡ rowAt f a .station → w .written ≡ rowAt f a .written → (j : ℕ)
-    → Seat (f .used) (set (f .rows) a w) j (stationAt f j .decided) (stationAt f j .state)
-seats-kept {f} s a w p q j =
-    seat-stored (f .used) (f .used) (f .rows) a w j (stationAt f j .decided) (le-refl (f .used)) (λ _ h. (p ∙ h, q)) (stationAt f j .state) (s .seats j)
+pub stations-kept : {f : Floor} {l : History} → Shows f l → (a : ℕ) (w : Row) → w .station ≡ rowAt f a .station → w .written ≡ rowAt f a .written → (j : ℕ)
+    → StationShows (f .used) (set (f .rows) a w) j (stationAt f j .decided) (stationAt f j .state)
+stations-kept {f} s a w p q j =
+    station-kept-by (f .used) (f .used) (f .rows) a w j (stationAt f j .decided) (le-refl (f .used)) (λ _ h. (p ∙ h, q)) (stationAt f j .state) (s .stations j)
 
 abbrev pub readEvent : Floor → ℕ → ℕ → Happening
 readEvent f a b = read (rowAt f a .rank) b (boxAt f b .register .write) (boxAt f b .register .value)
@@ -101,12 +101,12 @@ module _ {f : Floor} {l : History} (s : Shows f l) (y : Lengths f) (z : Sound f)
       writes = writes-more (readEvent f a b) (λ q. omega arith) (r .writes);
     }
 
-    pub serve-read-goes : Goes f l (afterServeRead f a b) (readEvent f a b)
+    pub serve-read-step : StepTo f l (afterServeRead f a b) (readEvent f a b)
     unfolding rmwRead
-    serve-read-goes = record {
+    serve-read-step = record {
       step = serve-read (box-edit f b _ (omega (arith, d .box, z .box-most)) y (readBox (rowAt f a .rank)) refl) refl refl;
       shows = shows-stored s (readEvent f a b) _ (f .stations) (boxes-paired s b _ (s .paired b)) (λ j. refl)
-          y a (d .used) (z .rows-most) _ refl (λ r q. absurd (omega arith)) read-row (seats-kept s a _ refl refl);
+          y a (d .used) (z .rows-most) _ refl (λ r q. absurd (omega arith)) read-row (stations-kept s a _ refl refl);
     }
 
   module _ (d : CanServe f true a b) where
@@ -153,9 +153,9 @@ module _ {f : Floor} {l : History} (s : Shows f l) (y : Lengths f) (z : Sound f)
     served-shows : (w : WriteDone) → Paired (w .register .write) (w .register .value) → Shows (served w) (wroteEvent (w .taken) rank b ∷ l)
     served-shows w p =
         shows-stored s (wroteEvent (w .taken) rank b) _ (f .stations) (boxes-paired s b (withRegister (boxAt f b) (w .register)) p) (λ j. refl)
-        y a (d .used) (z .rows-most) _ refl (wrote-own (w .taken) rank b) (write-row (w .taken)) (seats-kept s a _ refl refl)
+        y a (d .used) (z .rows-most) _ refl (wrote-own (w .taken) rank b) (write-row (w .taken)) (stations-kept s a _ refl refl)
 
-    serve-write : {w : WriteDone} → Written (boxAt f b .register) rank (rowAt f a .written) w → Goes f l (served w) (wroteEvent (w .taken) rank b)
+    serve-write : {w : WriteDone} → Written (boxAt f b .register) rank (rowAt f a .written) w → StepTo f l (served w) (wroteEvent (w .taken) rank b)
     serve-write (stored p q) = record {
       step = take (s .rows a (d .used) .writes .issue issued-then) p q (box-edit f b _ (omega (arith, d .box, z .box-most)) y (writeBox rank (rowAt f a .written)) refl);
       shows = served-shows _ (λ e. absurd (omega (arith, s .rows a (d .used) .positive)), λ _. issued-then);
@@ -165,5 +165,5 @@ module _ {f : Floor} {l : History} (s : Shows f l) (y : Lengths f) (z : Sound f)
       shows = served-shows (record { register = boxAt f b .register; taken = false }) (s .paired b);
     }
 
-    pub serve-write-goes : Goes f l (afterServeWrite f a b) (writeEvent f a b)
-    serve-write-goes = serve-write (write-view (boxAt f b .register) rank (rowAt f a .written))
+    pub serve-write-step : StepTo f l (afterServeWrite f a b) (writeEvent f a b)
+    serve-write-step = serve-write (write-view (boxAt f b .register) rank (rowAt f a .written))

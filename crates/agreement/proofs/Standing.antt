@@ -26,9 +26,9 @@ use Rattle.floor.proofs.RowLaws.{begins, apply-used}
 use Rattle.floor.proofs.BoxLaws.{stopped-stays, stopped-from}
 use Rattle.floor.proofs.StationLaws.{isIn, gone-from, active-from}
 use Rattle.agreement.specs.Words.{Before, commandAt, isBegun, floorAt, saidAt, Attempt, Named, AbortsAt, IdleAt, attemptsBefore, RoundLeft}
-use Rattle.agreement.proofs.History.{History, Seat, Shows}
+use Rattle.agreement.proofs.History.{History, StationShows, Shows}
 use Rattle.agreement.proofs.Reach.{New}
-use Rattle.agreement.proofs.Positions.{up-to, reached-at, means-at, row-at}
+use Rattle.agreement.proofs.Positions.{up-to, later, now, reached-at, means-at, row-at}
 use Rattle.agreement.proofs.Safety.{shown-decided}
 
 begins-one : (o : Outcome) → begins o ≡ indicator (isBegun o)
@@ -44,21 +44,14 @@ begins-one (said.Refused k) = refl
 
 -- a station that reads or writes is in a row of its own
 own-row : {f : Floor} {l : History} → Shows f l → (j a : ℕ) → isIn (stationAt f j .state) a ≡ true → (a < f .used) × (rowAt f a .station ≡ j)
-own-row {f} s j a = go (stationAt f j .state) (s .seats j)
+own-row {f} s j a = go (stationAt f j .state) (s .stations j)
   where
-    go : (p : Phase) → Seat (f .used) (f .rows) j (stationAt f j .decided) p → isIn p a ≡ true → (a < f .used) × (rowAt f a .station ≡ j)
+    go : (p : Phase) → StationShows (f .used) (f .rows) j (stationAt f j .decided) p → isIn p a ≡ true → (a < f .used) × (rowAt f a .station ≡ j)
     go Idle q e = clash e refl
     go (Reading x) q e = subst (λ (k : ℕ). (k < f .used) × (rowAt f k .station ≡ j)) (eqb-true x a e) (q .0, q .1)
     go (Writing x) q e = subst (λ (k : ℕ). (k < f .used) × (rowAt f k .station ≡ j)) (eqb-true x a e) (q .0, q .1)
     go (Decided x) q e = clash e refl
     go Gone q e = clash e refl
-
--- it held before i, and holds at or before i
-later : {P : ℕ → Type 0} {i : ℕ} → Before P i → Before P (suc i)
-later x = record { at = x .at; earlier = omega (arith, x .earlier); holds = x .holds }
-
-now : {P : ℕ → Type 0} (i : ℕ) → P i → Before P (suc i)
-now i p = record { at = i; earlier = omega arith; holds = p }
 
 module _ (f : Floor) (l : List (List ℕ)) (new : New f) where
   -- the number of stations stays, and a sound floor stays sound
@@ -141,7 +134,7 @@ module _ (f : Floor) (l : List (List ℕ)) (new : New f) where
     idle-as (Writing a) e = absurd (in-none a (ap (λ (p : Phase). isIn p a) e ∙ eq-eqb a a refl))
     idle-as (Decided a) e =
         absurd (idle .undecided _ (shown-decided f l new s i
-        (subst (Seat (floorAt f l i .used) (floorAt f l i .rows) s (stationAt (floorAt f l i) s .decided)) e (reached-at f l new i .shows .seats s))))
+        (subst (StationShows (floorAt f l i .used) (floorAt f l i .rows) s (stationAt (floorAt f l i) s .decided)) e (reached-at f l new i .shows .stations s))))
     idle-as Gone e = absurd (idle .here (gone-before s i (ap isGone e)))
 
     pub idle-state : stationAt (floorAt f l i) s .state ≡ Idle
