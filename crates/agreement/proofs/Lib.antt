@@ -9,7 +9,7 @@ pub mod Positions
 pub mod Safety
 pub mod Standing
 pub mod Consequences
-pub mod Examples
 pub mod Lists
 pub mod Alone
 pub mod Demand
+pub mod Examples

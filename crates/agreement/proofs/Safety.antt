@@ -51,7 +51,7 @@ module _ (f : Floor) (l : List (List ℕ)) where
   }
 
   module _ (new : New f) where
-    -- a decision is of a revision chosen, which is none of 0
+    -- a decision is of a revision that was chosen, and no revision is 0
     chosen-at : (i v : ℕ) → saidAt f l i ≡ said.Decided v → (r : ℕ) × ChosenAt r v i
     chosen-at i v e =
         let m = means-at f l new i (said.Decided v) e in
