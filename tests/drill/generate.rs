@@ -331,8 +331,9 @@ fn damaged(r: &mut Random) -> Vec<u8> {
             4 => file[4] = r.pick(&[0, 17, 18, 255]),
             5 => file[5] = r.pick(&[0, 33, 34, 64, 255]),
             6 => {
-                let length = (file[5] as usize).clamp(1, file.len() - 6);
-                file[5 + r.between(1, length)] = r.pick(&[0, 9, 10, 31, 32, 127, 128, 255]);
+                // a byte of the label, where the file still has one
+                let length = (file[5] as usize).clamp(0, file.len() - 6);
+                file[5 + r.between(length.min(1), length)] = r.pick(&[0, 9, 10, 31, 32, 127, 128, 255]);
             }
             7 => {
                 // the label as long as it may be, and the file just too short for it, or just long enough
