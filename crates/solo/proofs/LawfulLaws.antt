@@ -16,7 +16,7 @@ use Rattle.floor.specs.Commands.{commandOf}
 use Rattle.floor.specs.Step.{isRefused, applyOf, stepOf}
 use Rattle.floor.proofs.Standings.{clash}
 use Rattle.floor.proofs.Stores.{getD-same}
-use Rattle.floor.proofs.SoundLaws.{Sizes, sizes-mean}
+use Rattle.base.proofs.SizeLaws.{Sizes, sizes-mean}
 use Rattle.floor.proofs.View.{StepView, turned, began, apply-view}
 use Rattle.floor.proofs.Keeps.{Lengths, apply-keeps, apply-lengths, empty-sound, empty-lengths}
 use Rattle.floor.proofs.BoxLaws.{box-grown}
