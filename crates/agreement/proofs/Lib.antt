@@ -13,3 +13,4 @@ pub mod Lists
 pub mod Alone
 pub mod Demand
 pub mod Examples
+pub mod Played

@@ -6,6 +6,7 @@ use mathlib.Core.List.{List, [], _∷_, _++_}
 use lib.ListN.{length, getD, length-append}
 use lib.Seq.{getD-append-add}
 use Rattle.floor.specs.Step.{stepOf}
+use Rattle.floor.specs.Runs.{after}
 use Rattle.floor.specs.declared.Floor.{Floor}
 use Rattle.agreement.specs.Words.{floorAt, floorLeft, saidAt}
 
@@ -33,3 +34,9 @@ said-behind f l k i = ap₂ (λ (g : Floor) (r : List ℕ). stepOf g r .outcome)
 
 pub left-behind : (f : Floor) (l k : List (List ℕ)) → floorLeft f (l ++ k) ≡ floorLeft (floorLeft f l) k
 left-behind f l k = ap (floorAt f (l ++ k)) (length-append l k) ∙ floor-behind f l k (length k)
+
+-- the floor that a list left, as the fold over its records
+pub left-after : (f : Floor) (l : List (List ℕ)) → floorLeft f l ≡ after f l
+unfolding floorAt after
+left-after f [] = refl
+left-after f (r ∷ l) = floor-shift f r l (length l) ∙ left-after (stepOf f r .floor) l
