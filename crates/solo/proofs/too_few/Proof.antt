@@ -3,4 +3,4 @@ use Rattle.solo.proofs.too_few.Statement.{statement}
 use Rattle.solo.proofs.too_few.Tie as tie
 
 pub too-few-spec : {M : Type 1} → statement M
-too-few-spec = tie.close (tie.spec (λ c κs. search needs) (λ c κs. search needs) (λ c. cc))
+too-few-spec = tie.close (tie.spec (λ c κs. search needs) (λ c κs. search needs) (λ c. rw (c .before .count-answering .ensures, c .majority .ensures)))
