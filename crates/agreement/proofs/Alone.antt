@@ -19,7 +19,6 @@ use Rattle.floor.proofs.Standings.{clash}
 use Rattle.floor.proofs.Encodings.{decode-encode}
 use Rattle.solo.specs.Plan.{roundOf, answeringFrom, askedOf, exchange, exchanges, planOf}
 use Rattle.solo.specs.Progress.{Ready}
-use Rattle.solo.specs.Alone.{AllRecords}
 use Rattle.solo.proofs.RoundLaws.{round-smallest}
 use Rattle.agreement.specs.Words.{floorAt, Answering, IdleAt, attemptsBefore, RoundLeft}
 use Rattle.agreement.proofs.Reach.{New}
@@ -104,9 +103,3 @@ plan-each g s v = (
 
 pub plan-delivers : (g : Floor) (s v i : ℕ) → i < length (planOf g s v) → Delivers (g .used) (getD (planOf g s v) i [])
 plan-delivers g s v = each-at (Delivers (g .used)) (planOf g s v) (plan-each g s v)
-
--- some of the records of the plan are records of 8 bytes, as all are
-pub all-take : (k : ℕ) (l : List (List ℕ)) → AllRecords l → AllRecords (take k l)
-all-take zero l e = tt
-all-take (suc k) [] e = tt
-all-take (suc k) (r ∷ l) e = (e .0, all-take k l (e .1))

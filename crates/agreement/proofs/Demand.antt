@@ -25,26 +25,21 @@ use Rattle.floor.proofs.Keeps.{Lengths, row-stored}
 use Rattle.floor.proofs.RowLaws.{apply-used, row-same}
 use Rattle.solo.specs.Plan.{roundOf, planOf}
 use Rattle.solo.specs.Solo.{soloOf}
-use Rattle.solo.specs.Counted.{after, saidBy, AllAccepted, lastSaid, Counted}
+use Rattle.solo.specs.Counted.{saidBy, AllAccepted, lastSaid, Counted}
 use Rattle.solo.specs.Progress.{Lawful, Ready, Decides}
 use Rattle.solo.specs.declared.Solo.{Solo}
 use Rattle.solo.proofs.CountLaws.{solo-counted}
+use Rattle.base.proofs.RecordLaws.{all-take}
 use Rattle.solo.proofs.LawfulLaws.{after-lawful, new-lawful}
 use Rattle.solo.proofs.Decides.{solo-decides}
-use Rattle.solo.proofs.Alones.{plan-records}
+use Rattle.solo.proofs.PlanRecords.{plan-records}
 use Rattle.agreement.specs.Words.{commandAt, floorAt, floorLeft, saidAt, DecidesAt}
 use Rattle.agreement.specs.Demand.{firstFloor, DrivenAlone, Demand3}
 use Rattle.agreement.proofs.Reach.{New, new-floor}
 use Rattle.agreement.proofs.Positions.{size-at, means-at}
 use Rattle.agreement.proofs.Safety.{decides-at, safety}
-use Rattle.agreement.proofs.Lists.{floor-shift, said-shift, floor-behind, said-behind, left-behind}
-use Rattle.agreement.proofs.Alone.{ready, plan-delivers, all-take}
-
--- the floor that a list left
-left-after : (f : Floor) (l : List (List ℕ)) → floorLeft f l ≡ after f l
-unfolding floorAt after
-left-after f [] = refl
-left-after f (r ∷ l) = floor-shift f r l (length l) ∙ left-after (stepOf f r .floor) l
+use Rattle.agreement.proofs.Lists.{floor-shift, said-shift, floor-behind, said-behind, left-behind, left-after}
+use Rattle.agreement.proofs.Alone.{ready, plan-delivers}
 
 -- what a list of steps said, by position
 said-accepted : (g : Floor) (l : List (List ℕ)) → AllAccepted (saidBy g l) → (i : ℕ) → i < length l → isRefused (saidAt g l i) ≡ false

@@ -12,7 +12,7 @@ use Rattle.floor.specs.Step.{isRefused}
 use Rattle.floor.specs.declared.Floor.{Floor}
 use Rattle.floor.specs.declared.Outcome.the-variants as said
 use Rattle.solo.specs.Solo.{soloOf}
-use Rattle.solo.specs.Alone.{AllRecords}
+use Rattle.base.specs.Records.{AllRecords}
 use Rattle.solo.specs.declared.Solo.{Solo}
 use Rattle.agreement.specs.Words.{Before, floorLeft, saidAt, OfferedAt, DecidesAt, OutrankedAt, ShownAt, Answering, IdleAt, attemptsBefore, RoundLeft}
 

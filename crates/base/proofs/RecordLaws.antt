@@ -7,7 +7,7 @@ use native.Mathlib.Numerals.{add-one}
 use native.Mathlib.Omega.{arith}
 use lib.ListN.{length, getD, take, drop, length-append}
 use lib.Seq.{getD-drop, drop-cons, drop-drop, take-add, drop-append-seam, take-at}
-use Rattle.base.specs.Records.{recordAt, recordsFrom}
+use Rattle.base.specs.Records.{recordAt, recordsFrom, AllRecords}
 
 -- each record has 8 bytes
 pub record-length : (s : List ℕ) (p : ℕ) → length (recordAt s p) ≡ 8
@@ -94,3 +94,13 @@ unfolding recordsFrom
 records-drop zero s q p = refl
 records-drop (suc k) s q p =
     ap₂ _∷_ (record-drop s q p) (records-drop k s q (p + 8) ∙ ap (recordsFrom k s) (sym (add-assoc q p 8)))
+
+-- a list of records, another behind it, and its first k
+pub all-append : (xs ys : List (List ℕ)) → AllRecords xs → AllRecords ys → AllRecords (xs ++ ys)
+all-append [] ys a b = b
+all-append (x ∷ xs) ys a b = (a .0, all-append xs ys (a .1) b)
+
+pub all-take : (k : ℕ) (xs : List (List ℕ)) → AllRecords xs → AllRecords (take k xs)
+all-take zero xs a = tt
+all-take (suc k) [] a = tt
+all-take (suc k) (x ∷ xs) a = (a .0, all-take k xs (a .1))

@@ -1,7 +1,8 @@
 -- Document 01, "The drill file": records of 8 bytes in a list of bytes.
-use Prim.Native.Nat.{ℕ, zero, suc, _+_}
+use Prim.Native.Nat.{ℕ, zero, suc, _+_, _<_}
+use mathlib.Core.Path.{_≡_}
 use mathlib.Core.List.{List, [], _∷_}
-use lib.ListN.{getD}
+use lib.ListN.{length, getD}
 
 -- the record of 8 bytes at place p; a byte past the end of the list is 0
 unfoldable pub recordAt : List ℕ → ℕ → List ℕ
@@ -20,3 +21,17 @@ recordAt s p =
 unfoldable pub recordsFrom : ℕ → List ℕ → ℕ → List (List ℕ)
 recordsFrom zero s p = []
 recordsFrom (suc k) s p = recordAt s p ∷ recordsFrom k s (p + 8)
+
+-- a list of bytes
+abbrev pub Bytes : List ℕ → Type 0
+Bytes [] = Unit {0}
+Bytes (x ∷ l) = (x < 256) × Bytes l
+
+-- a record: 8 bytes
+pub record IsRecord (r : List ℕ) : Type 0 where
+  pub eight : length r ≡ 8
+  pub bytes : Bytes r
+
+abbrev pub AllRecords : List (List ℕ) → Type 0
+AllRecords [] = Unit {0}
+AllRecords (r ∷ rs) = IsRecord r × AllRecords rs

@@ -8,7 +8,7 @@ use borrow.Author.Tests.{ltb-false, eqb-true, not-false, le-ltb, eq-eqb}
 use lib.Dec.{eqb, ltb}
 use lib.ListN.{length, getD}
 use Rattle.base.specs.Choice.{if_then_else_}
-use Rattle.base.proofs.Choices.{on-true, on-false, by-test, first-false}
+use Rattle.base.proofs.Choices.{on-true, on-false, by-test, first-false, passed}
 use Rattle.base.proofs.SizeLaws.{Sizes, sizes-mean, sizes-hold}
 use Rattle.drill_file.specs.DrillFile.{statedSize, versionOf, boxesOf, stationsOf, labelLength, labelPart, recordsStart, afterLabel, recordCount, wrongSize, wrongVersion, wrongFloor, wrongByte, wrongBytes, wrongLabel, wrongRecords, fileRefusal}
 
@@ -16,11 +16,6 @@ use Rattle.drill_file.specs.DrillFile.{statedSize, versionOf, boxesOf, s
 none-true : (t x : Bool) → (if t then true else x) ≡ false → (t ≡ false) × (x ≡ false)
 none-true t x =
     by-test (λ (y : Bool). y ≡ false → (t ≡ false) × (x ≡ false)) t true x (λ _ e. absurd (true≢false e)) (λ u e. (u, e))
-
--- a chain of refusals that ends in 0: none of them applied
-none-first : (t : Bool) (k x : ℕ) → (if t then suc k else x) ≡ 0 → (t ≡ false) × (x ≡ 0)
-none-first t k x =
-    by-test (λ (y : ℕ). y ≡ 0 → (t ≡ false) × (x ≡ 0)) t (suc k) x (λ _ e. absurd (omega arith)) (λ u e. (u, e))
 
 -- refusal 1
 pub record Sized (s : List ℕ) : Type 0 where
@@ -120,11 +115,11 @@ pub record Passed (s : List ℕ) : Type 0 where
 pub accepted-passed : (s : List ℕ) → fileRefusal s ≡ 0 → Passed s
 unfolding fileRefusal wrongVersion wrongFloor
 accepted-passed s e =
-    let a = none-first _ _ _ e in
-    let b = none-first _ _ _ (a .1) in
-    let c = none-first _ _ _ (b .1) in
-    let d = none-first _ _ _ (c .1) in
-    let f = none-first _ _ _ (d .1) in
+    let a = passed _ _ _ e (omega arith) in
+    let b = passed _ _ _ (a .1) (omega arith) in
+    let c = passed _ _ _ (b .1) (omega arith) in
+    let d = passed _ _ _ (c .1) (omega arith) in
+    let f = passed _ _ _ (d .1) (omega arith) in
     record {
       sized = size-means s (a .0);
       version = eqb-true (versionOf s) 1 (not-false _ (b .0));

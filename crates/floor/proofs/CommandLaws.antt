@@ -5,6 +5,7 @@ use mathlib.Core.Path.{_≡_, ap}
 use mathlib.Core.Bool.{true}
 use mathlib.Core.List.{List, [], _∷_}
 use borrow.Author.Tests.{leb-true}
+use Rattle.base.specs.Records.{Bytes}
 use Rattle.base.proofs.Choices.{both-true}
 use Rattle.floor.specs.Commands.{between, encodeOf}
 use Rattle.floor.specs.Step.{applyOf, stepOf}
@@ -33,10 +34,6 @@ Fielded (DeliverWrite a b) = (a < 256) × (b < 256)
 Fielded (Stop b) = b < 256
 Fielded (Leave s) = s < 256
 Fielded Malformed = Unit {0}
-
-abbrev pub Bytes : List ℕ → Type 0
-Bytes [] = Unit {0}
-Bytes (x ∷ l) = (x < 256) × Bytes l
 
 -- such a command's record is made of bytes
 pub encode-bytes : (c : Command) → Fielded c → Bytes (encodeOf c)

@@ -18,7 +18,8 @@ use Rattle.floor.specs.declared.Outcome.the-variants.{Begun, Served, Received, 
 use Rattle.solo.specs.Plan.{planOf}
 use Rattle.solo.specs.Drive.{goesOn, counted, advanceOf, drivenBy, startOf, driveOf}
 use Rattle.solo.specs.Solo.{turnedBack, soloOf}
-use Rattle.solo.specs.Counted.{after, saidBy, AllAccepted, lastSaid, Counted}
+use Rattle.floor.specs.Runs.{after}
+use Rattle.solo.specs.Counted.{saidBy, AllAccepted, lastSaid, Counted}
 use Rattle.solo.specs.declared.Solo.{Solo}
 use Rattle.solo.proofs.DriveLaws.{advance-over}
 

@@ -28,7 +28,7 @@ use Rattle.floor.specs.declared.Command.the-variants.{Stop}
 use Rattle.solo.specs.Plan.{highestRank, roundAbove, answeringFrom, lowest, exchange, exchanges, planOf}
 use Rattle.solo.specs.Drive.{counted, advanceOf, drivenBy}
 use Rattle.solo.specs.Solo.{frontRefusal, soloRefusal, soloOf}
-use Rattle.solo.specs.Counted.{after}
+use Rattle.floor.specs.Runs.{after}
 use Rattle.solo.specs.Progress.{Ready}
 use Rattle.solo.specs.declared.Solo.{Solo}
 

@@ -32,7 +32,7 @@ use Rattle.floor.specs.declared.Outcome.the-variants.{Begun}
 use Rattle.floor.specs.declared.Command.{Command}
 use Rattle.floor.specs.declared.Command.the-variants.{Begin}
 use Rattle.solo.specs.Plan.{highestRank, highestBegun}
-use Rattle.solo.specs.Counted.{after}
+use Rattle.floor.specs.Runs.{after}
 use Rattle.solo.specs.Progress.{Lawful}
 use Rattle.solo.proofs.RoundLaws.{highest-each, highest-most}
 

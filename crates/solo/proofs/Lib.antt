@@ -9,5 +9,5 @@ pub mod Requests
 pub mod Accepted
 pub mod Course
 pub mod Decides
-pub mod Alones
+pub mod PlanRecords
 pub mod Examples

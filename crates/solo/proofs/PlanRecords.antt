@@ -1,4 +1,4 @@
--- After any list of steps from a new floor, a ready station driven alone decides.
+-- The plan of a solo finish is made of records of 8 bytes.
 use Prim.Native.Nat.{ℕ, zero, suc, _+_, _≤_, _<_}
 use native.Mathlib.Omega.{arith}
 use mathlib.Core.Path.{_≡_, refl, sym, ap, _∙_}
@@ -8,26 +8,10 @@ use lib.ListN.{length, take}
 use Rattle.base.specs.Numbers.{quorum}
 use Rattle.base.proofs.Choices.{by-test}
 use Rattle.register.specs.declared.StorageBox.{StorageBox}
-use Rattle.floor.specs.Floors.{newFloorOf}
-use Rattle.floor.specs.Step.{isRefused}
 use Rattle.floor.specs.declared.Floor.{Floor}
 use Rattle.solo.specs.Plan.{roundOf, answeringFrom, answering, lowest, exchange, exchanges, planOf}
-use Rattle.solo.specs.Solo.{soloOf}
-use Rattle.solo.specs.Counted.{after}
-use Rattle.solo.specs.Progress.{Ready}
-use Rattle.solo.specs.Alone.{IsRecord, AllRecords, Alone}
-use Rattle.solo.proofs.CountLaws.{after-append, solo-counted}
-use Rattle.solo.proofs.LawfulLaws.{new-lawful, after-lawful}
-use Rattle.solo.proofs.Decides.{solo-decides}
-
-all-append : (xs ys : List (List ℕ)) → AllRecords xs → AllRecords ys → AllRecords (xs ++ ys)
-all-append [] ys a b = b
-all-append (x ∷ xs) ys a b = (a .0, all-append xs ys (a .1) b)
-
-all-take : (k : ℕ) (xs : List (List ℕ)) → AllRecords xs → AllRecords (take k xs)
-all-take zero xs a = tt
-all-take (suc k) [] a = tt
-all-take (suc k) (x ∷ xs) a = (a .0, all-take k xs (a .1))
+use Rattle.base.specs.Records.{IsRecord, AllRecords}
+use Rattle.base.proofs.RecordLaws.{all-append}
 
 -- the boxes asked have numbers that fit a byte
 abbrev Below : ℕ → List ℕ → Type 0
@@ -66,25 +50,3 @@ plan-records f s v hs hv hr hu hn =
       record { eight = refl; bytes = (omega arith, (hs, (omega arith, (omega arith, (omega arith, (omega arith, (omega arith, (omega arith, tt)))))))) },
       all-append (exchanges false (f .used) _) _ (exchanges-records false (f .used) _ hu u) (exchanges-records true (f .used) _ hu u),
     )
-
--- the solo finish after a list of steps
-pub driven-alone : (n m : ℕ) (rs : List (List ℕ)) (s v : ℕ) → Ready (after (newFloorOf n m .floor) rs) s v → v < 4294967296
-    → Alone (newFloorOf n m .floor) rs (soloOf (after (newFloorOf n m .floor) rs) s v)
-driven-alone n m rs s v x w =
-    let y = after-lawful rs (newFloorOf n m .floor) (new-lawful n m) in
-    let d = solo-decides f s v y x in
-    let c = solo-counted f s v in
-    record {
-      more = take (soloOf f s v .steps) (planOf f s v);
-      records = all-take (soloOf f s v .steps) (planOf f s v) (plan-records f s v (omega (arith, x .station, y .sound .station-most)) w (x .round) (omega (arith, x .row)) (omega (arith, y .sound .box-most)));
-      reached = after-append (newFloorOf n m .floor) rs _ ∙ sym (c .reached);
-      count = c .number;
-      number = d .steps;
-      accepted = c .accepted;
-      revision = d .revision;
-      said = d .said;
-      last = c .last (ap isRefused (d .said)) ∙ d .said;
-    }
-  where
-    f : Floor
-    f = after (newFloorOf n m .floor) rs
