@@ -1,0 +1,32 @@
+-- The table's claim, by computation.
+use mathlib.Core.Path.{_≡_, refl}
+use mathlib.Core.List.{List, [], _∷_, map, head-eq-of-cons-eq, tail-eq-of-cons-eq}
+use lib.Count.{ones, onesIn}
+use Rattle.base.specs.Choice.{if_then_else_}
+use Rattle.base.specs.Numbers.{sizesRight}
+use Rattle.base.specs.Records.{recordAt, recordsFrom}
+use Rattle.protocol.specs.Mask.{bit, setBit, countBelow}
+use Rattle.register.specs.Register.{rmwRead, rmwWrite, takes}
+use Rattle.floor.specs.State.{standing, atQuorum}
+use Rattle.floor.specs.Sound.{stationsBelow, soundOf}
+use Rattle.floor.specs.Floors.{newFloorOf}
+use Rattle.floor.specs.Commands.{allZero, between, requestOf, departureOf, commandOf, placeIn}
+use Rattle.floor.specs.Rows.{readsWaiting, newRow, better, bestOf, revisionFrom, revisionOf, writesWaiting, issued, stillTaken, allTaken}
+use Rattle.floor.specs.Refusals.{beginRefusal, serveRefusal, deliverRefusal, stopRefusal, leaveRefusal}
+use Rattle.floor.specs.Effects.{begun, servedRead, servedWrite, deliveredRead, deliveredWrite}
+use Rattle.floor.specs.Step.{playOf, applyOf, stepOf}
+use Rattle.floor.specs.Runs.{runFrom, after}
+use Rattle.drill_file.specs.DrillFile.{wrongSize, wrongVersion, wrongFloor, wrongByte, wrongBytes, wrongLabel, wrongRecords, fileRefusal, labelOf}
+use Rattle.player.specs.Played.{playedOf, lastRank}
+use Rattle.examples.specs.Row.{Row, Answer, AllHold}
+use Rattle.examples.specs.Runs.{saidFrom, receivedFrom, linesFrom}
+use Rattle.examples.specs.Table.{table, Claim}
+
+-- one equation on all rows gives each row's
+each-holds : (rs : List Row) → map (λ (r : Row). r .given) rs ≡ map (λ (r : Row). r .expected) rs → AllHold rs
+each-holds [] e = tt
+each-holds (r ∷ rs) e = (head-eq-of-cons-eq e, each-holds rs (tail-eq-of-cons-eq e))
+
+pub examples-hold : Claim
+unfolding if_then_else_ sizesRight recordAt recordsFrom bit setBit countBelow ones onesIn rmwRead rmwWrite takes standing atQuorum stationsBelow soundOf newFloorOf allZero between requestOf departureOf commandOf placeIn readsWaiting newRow better bestOf revisionFrom revisionOf writesWaiting issued stillTaken allTaken beginRefusal serveRefusal deliverRefusal stopRefusal leaveRefusal begun servedRead servedWrite deliveredRead deliveredWrite playOf applyOf stepOf runFrom after wrongSize wrongVersion wrongFloor wrongByte wrongBytes wrongLabel wrongRecords fileRefusal labelOf playedOf lastRank saidFrom receivedFrom linesFrom
+examples-hold = each-holds table refl
