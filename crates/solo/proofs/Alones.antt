@@ -1,0 +1,90 @@
+-- After any list of steps from a new floor, a ready station driven alone decides.
+use Prim.Native.Nat.{ℕ, zero, suc, _+_, _≤_, _<_}
+use native.Mathlib.Omega.{arith}
+use mathlib.Core.Path.{_≡_, refl, sym, ap, _∙_}
+use mathlib.Core.Bool.{Bool, true, false}
+use mathlib.Core.List.{List, [], _∷_, _++_}
+use lib.ListN.{length, take}
+use Rattle.base.specs.Numbers.{quorum}
+use Rattle.base.proofs.Choices.{by-test}
+use Rattle.register.specs.declared.StorageBox.{StorageBox}
+use Rattle.floor.specs.Floors.{newFloorOf}
+use Rattle.floor.specs.Step.{isRefused}
+use Rattle.floor.specs.declared.Floor.{Floor}
+use Rattle.solo.specs.Plan.{roundOf, answeringFrom, answering, lowest, exchange, exchanges, planOf}
+use Rattle.solo.specs.Solo.{soloOf}
+use Rattle.solo.specs.Counted.{after}
+use Rattle.solo.specs.Progress.{Ready}
+use Rattle.solo.specs.Alone.{IsRecord, AllRecords, Alone}
+use Rattle.solo.proofs.CountLaws.{after-append, solo-counted}
+use Rattle.solo.proofs.LawfulLaws.{new-lawful, after-lawful}
+use Rattle.solo.proofs.Decides.{solo-decides}
+
+all-append : (xs ys : List (List ℕ)) → AllRecords xs → AllRecords ys → AllRecords (xs ++ ys)
+all-append [] ys a b = b
+all-append (x ∷ xs) ys a b = (a .0, all-append xs ys (a .1) b)
+
+all-take : (k : ℕ) (xs : List (List ℕ)) → AllRecords xs → AllRecords (take k xs)
+all-take zero xs a = tt
+all-take (suc k) [] a = tt
+all-take (suc k) (x ∷ xs) a = (a .0, all-take k xs (a .1))
+
+-- the boxes asked have numbers that fit a byte
+abbrev Below : ℕ → List ℕ → Type 0
+Below n [] = Unit {0}
+Below n (b ∷ bs) = (b < n) × Below n bs
+
+below-take : (n k : ℕ) (bs : List ℕ) → Below n bs → Below n (take k bs)
+below-take n zero bs u = tt
+below-take n (suc k) [] u = tt
+below-take n (suc k) (b ∷ bs) u = (u .0, below-take n k bs (u .1))
+
+answering-below : (n : ℕ) (boxes : List StorageBox) (k b : ℕ) → b + k ≤ n → Below n (answeringFrom k b boxes)
+unfolding answeringFrom
+answering-below n boxes zero b h = tt
+answering-below n boxes (suc k) b h =
+    let r = answering-below n boxes k (b + 1) (omega arith) in
+    by-test (Below n) _ _ _ (λ _. r) (λ _. (omega arith, r))
+
+request-record : (kind a b : ℕ) → kind < 256 → a < 256 → b < 256 → IsRecord (kind ∷ a ∷ b ∷ 0 ∷ 0 ∷ 0 ∷ 0 ∷ 0 ∷ [])
+request-record kind a b k h l =
+    record { eight = refl; bytes = (k, (h, (l, (omega arith, (omega arith, (omega arith, (omega arith, (omega arith, tt)))))))) }
+
+exchanges-records : (write : Bool) (a : ℕ) (bs : List ℕ) → a < 256 → Below 256 bs → AllRecords (exchanges write a bs)
+unfolding exchanges exchange
+exchanges-records write a [] h u = tt
+exchanges-records false a (b ∷ bs) h u =
+    (request-record 2 a b (omega arith) h (u .0), (request-record 4 a b (omega arith) h (u .0), exchanges-records false a bs h (u .1)))
+exchanges-records true a (b ∷ bs) h u =
+    (request-record 3 a b (omega arith) h (u .0), (request-record 5 a b (omega arith) h (u .0), exchanges-records true a bs h (u .1)))
+
+-- the plan is made of records of 8 bytes
+pub plan-records : (f : Floor) (s v : ℕ) → s < 256 → v < 4294967296 → roundOf f s ≤ 65535 → f .used < 256 → f .n ≤ 256 → AllRecords (planOf f s v)
+unfolding planOf lowest
+plan-records f s v hs hv hr hu hn =
+    let u = below-take 256 (quorum (f .n)) (answering f) (answering-below 256 (f .boxes) (f .n) 0 (omega arith)) in (
+      record { eight = refl; bytes = (omega arith, (hs, (omega arith, (omega arith, (omega arith, (omega arith, (omega arith, (omega arith, tt)))))))) },
+      all-append (exchanges false (f .used) _) _ (exchanges-records false (f .used) _ hu u) (exchanges-records true (f .used) _ hu u),
+    )
+
+-- the solo finish after a list of steps
+pub driven-alone : (n m : ℕ) (rs : List (List ℕ)) (s v : ℕ) → Ready (after (newFloorOf n m .floor) rs) s v → v < 4294967296
+    → Alone (newFloorOf n m .floor) rs (soloOf (after (newFloorOf n m .floor) rs) s v)
+driven-alone n m rs s v x w =
+    let y = after-lawful rs (newFloorOf n m .floor) (new-lawful n m) in
+    let d = solo-decides f s v y x in
+    let c = solo-counted f s v in
+    record {
+      more = take (soloOf f s v .steps) (planOf f s v);
+      records = all-take (soloOf f s v .steps) (planOf f s v) (plan-records f s v (omega (arith, x .station, y .sound .station-most)) w (x .round) (omega (arith, x .row)) (omega (arith, y .sound .box-most)));
+      reached = after-append (newFloorOf n m .floor) rs _ ∙ sym (c .reached);
+      count = c .number;
+      number = d .steps;
+      accepted = c .accepted;
+      revision = d .revision;
+      said = d .said;
+      last = c .last (ap isRefused (d .said)) ∙ d .said;
+    }
+  where
+    f : Floor
+    f = after (newFloorOf n m .floor) rs

@@ -1,0 +1,110 @@
+-- The refusals up front: the test of soundness that the code makes, what it means that none applies, and what comes of each case.
+use Prim.Native.Nat.{ℕ, _≤_, _<_}
+use native.Mathlib.Omega.{arith}
+use mathlib.Core.Path.{_≡_, refl, sym, ap, _∙_}
+use mathlib.Core.Bool.{Bool, true, false}
+use lib.ListN.{length}
+use lib.Dec.{eqb}
+use borrow.Author.Tests.{leb-false, lt-leb, ltb-false, le-ltb, eqb-false, eq-eqb, ne-eqb}
+use Rattle.base.specs.Choice.{if_then_else_}
+use Rattle.base.specs.Numbers.{quorum}
+use Rattle.base.proofs.Choices.{on-true, on-false, by-test}
+use Rattle.floor.specs.State.{stationAt, isGone, isBusy}
+use Rattle.floor.specs.Sound.{soundOf}
+use Rattle.floor.specs.Step.{numberOf, playOf, applyOf}
+use Rattle.floor.proofs.RefusalLaws.{positive}
+use Rattle.floor.specs.declared.Floor.{Floor}
+use Rattle.floor.specs.declared.Command.the-variants.{Malformed}
+use Rattle.floor.specs.declared.Stepped.{Stepped}
+use Rattle.solo.specs.Plan.{highestBegun, roundAbove, roundOf, answering, planOf}
+use Rattle.solo.specs.Drive.{driveOf}
+use Rattle.solo.specs.Solo.{frontRefusal, soloRefusal, turnedBack, soloOf}
+use Rattle.solo.specs.declared.Solo.{Solo}
+
+-- a step of no kind says 7 on a sound floor, and 6 on any other
+pub sound-told : (f : Floor) → eqb (numberOf (applyOf f Malformed .outcome)) 7 ≡ soundOf f
+unfolding applyOf playOf
+sound-told f =
+    by-test (λ (s : Stepped). eqb (numberOf (s .outcome)) 7 ≡ soundOf f) (soundOf f) _ _
+    (λ e. by-test (λ (s : Stepped). eqb (numberOf (s .outcome)) 7 ≡ soundOf f) _ _ _ (λ _. sym e) (λ _. sym e)) sym
+
+-- a chain of refusals that came to 0: its first test failed
+passed : (t : Bool) (k x : ℕ) → (if t then k else x) ≡ 0 → 0 < k → (t ≡ false) × (x ≡ 0)
+unfolding if_then_else_
+passed true k x e h = absurd (omega arith)
+passed false k x e h = (refl, e)
+
+-- no refusal from 8 on applies
+pub record MayFinish (f : Floor) (s v round : ℕ) : Type 0 where
+  pub station : s < f .m
+  pub here : isGone (stationAt f s .state) ≡ false
+  pub free : isBusy (stationAt f s .state) ≡ false
+  pub offer : 0 < v
+  pub left : round ≤ 65535
+  pub row : f .used < 64
+  pub boxes : quorum (f .n) ≤ length (answering f)
+
+module _ (f : Floor) (s v round : ℕ) where
+  pub front-means : frontRefusal f s v round ≡ 0 → MayFinish f s v round
+  unfolding frontRefusal
+  front-means e =
+      let x₁ = passed _ _ _ e (omega arith) in
+      let x₂ = passed _ _ _ (x₁ .1) (omega arith) in
+      let x₃ = passed _ _ _ (x₂ .1) (omega arith) in
+      let x₄ = passed _ _ _ (x₃ .1) (omega arith) in
+      let x₅ = passed _ _ _ (x₄ .1) (omega arith) in
+      let x₆ = passed _ _ _ (x₅ .1) (omega arith) in
+      let x₇ = passed _ _ _ (x₆ .1) (omega arith) in
+      record {
+        station = leb-false _ _ (x₁ .0);
+        here = x₂ .0;
+        free = x₃ .0;
+        offer = positive v (x₄ .0);
+        left = ltb-false _ _ (x₅ .0);
+        row = leb-false _ _ (x₆ .0);
+        boxes = ltb-false _ _ (x₇ .0);
+      }
+
+  pub front-holds : MayFinish f s v round → frontRefusal f s v round ≡ 0
+  unfolding frontRefusal
+  front-holds d =
+      sym (on-false _ (lt-leb _ _ (d .station)) (on-false _ (d .here) (on-false _ (d .free)
+      (on-false _ (ne-eqb v 0 (λ (e : v ≡ 0). omega (arith, d .offer))) (on-false _ (le-ltb _ _ (d .left)) (on-false _ (lt-leb _ _ (d .row))
+      (on-false _ (le-ltb _ _ (d .boxes)) refl)))))))
+
+module _ (f : Floor) (s v : ℕ) where
+  -- "a refused solo finish takes 0 steps", and leaves the floor
+  pub solo-refused : ¬ (soloRefusal f s v ≡ 0) → soloOf f s v ≡ turnedBack f (soloRefusal f s v)
+  unfolding soloOf
+  solo-refused e = sym (on-false _ (ne-eqb _ _ e) refl)
+
+  pub solo-driven : soloRefusal f s v ≡ 0 → soloOf f s v ≡ driveOf f (planOf f s v)
+  unfolding soloOf
+  solo-driven e = sym (on-true _ (eq-eqb _ _ e) refl)
+
+  pub refusal-unsound : soundOf f ≡ false → soloRefusal f s v ≡ 6
+  unfolding soloRefusal
+  refusal-unsound e = sym (on-false _ e refl)
+
+  pub refusal-sound : soundOf f ≡ true → soloRefusal f s v ≡ frontRefusal f s v (roundOf f s)
+  unfolding soloRefusal
+  refusal-sound e = sym (on-true _ e refl)
+
+-- the code's three ends: the floor is not sound; a later refusal applies; none does
+pub ends-unsound : (f : Floor) (s v : ℕ) (r : Solo) → soundOf f ≡ false → r ≡ turnedBack f 6 → r ≡ soloOf f s v
+ends-unsound f s v r z h =
+    let k = refusal-unsound f s v z in
+    h ∙ rw k at (sym (solo-refused f s v (λ (e : soloRefusal f s v ≡ 0). omega (arith, k))))
+
+module _ (f : Floor) (s v h round k : ℕ) (r : Solo) (z : soundOf f ≡ true) (eh : h ≡ highestBegun f) (er : round ≡ roundAbove h s) (ek : k ≡ frontRefusal f s v round) where
+  picked : round ≡ roundOf f s
+  picked = er ∙ rw eh
+
+  first : k ≡ soloRefusal f s v
+  first = ek ∙ rw picked (sym (refusal-sound f s v z))
+
+  pub ends-refused : ¬ (k ≡ 0) → r ≡ turnedBack f k → r ≡ soloOf f s v
+  ends-refused n e = e ∙ rw first (sym (solo-refused f s v (λ (o : soloRefusal f s v ≡ 0). n (first ∙ o))))
+
+  pub ends-driven : k ≡ 0 → r ≡ driveOf f (planOf f s v) → r ≡ soloOf f s v
+  ends-driven o e = e ∙ sym (solo-driven f s v (sym first ∙ o))

@@ -1,0 +1,13 @@
+pub mod DriveLaws
+pub mod PlanLaws
+pub mod PhaseLaws
+pub mod FrontLaws
+pub mod CountLaws
+pub mod RoundLaws
+pub mod LawfulLaws
+pub mod Requests
+pub mod Accepted
+pub mod Course
+pub mod Decides
+pub mod Alones
+pub mod Examples

@@ -1,0 +1,6 @@
+pub mod Plan
+pub mod Drive
+pub mod Solo
+pub mod Counted
+pub mod Progress
+pub mod Alone
