@@ -16,10 +16,14 @@ use Rattle.floor.specs.Refusals.{beginRefusal, serveRefusal, deliverRefusal, st
 use Rattle.floor.specs.Effects.{begun, servedRead, servedWrite, deliveredRead, deliveredWrite}
 use Rattle.floor.specs.Step.{playOf, applyOf, stepOf}
 use Rattle.floor.specs.Runs.{runFrom, after}
+use Rattle.solo.specs.Plan.{highestRank, roundAbove, answeringFrom, lowest, exchange, exchanges, planOf}
+use Rattle.solo.specs.Drive.{counted, advanceOf, drivenBy}
+use Rattle.solo.specs.Solo.{frontRefusal, soloRefusal, soloOf}
+use Rattle.solo.specs.Counted.{saidBy}
 use Rattle.drill_file.specs.DrillFile.{wrongSize, wrongVersion, wrongFloor, wrongByte, wrongBytes, wrongLabel, wrongRecords, fileRefusal, labelOf}
 use Rattle.player.specs.Played.{playedOf, lastRank}
 use Rattle.examples.specs.Row.{Row, Answer, AllHold}
-use Rattle.examples.specs.Runs.{saidFrom, receivedFrom, linesFrom}
+use Rattle.examples.specs.Runs.{receivedFrom, linesFrom}
 use Rattle.examples.specs.Table.{table, Claim}
 
 -- one equation on all rows gives each row's
@@ -28,5 +32,5 @@ each-holds [] e = tt
 each-holds (r ∷ rs) e = (head-eq-of-cons-eq e, each-holds rs (tail-eq-of-cons-eq e))
 
 pub examples-hold : Claim
-unfolding if_then_else_ sizesRight recordAt recordsFrom bit setBit countBelow ones onesIn rmwRead rmwWrite takes standing atQuorum stationsBelow soundOf newFloorOf allZero between requestOf departureOf commandOf placeIn readsWaiting newRow better bestOf revisionFrom revisionOf writesWaiting issued stillTaken allTaken beginRefusal serveRefusal deliverRefusal stopRefusal leaveRefusal begun servedRead servedWrite deliveredRead deliveredWrite playOf applyOf stepOf runFrom after wrongSize wrongVersion wrongFloor wrongByte wrongBytes wrongLabel wrongRecords fileRefusal labelOf playedOf lastRank saidFrom receivedFrom linesFrom
+unfolding if_then_else_ sizesRight recordAt recordsFrom bit setBit countBelow ones onesIn rmwRead rmwWrite takes standing atQuorum stationsBelow soundOf newFloorOf allZero between requestOf departureOf commandOf placeIn readsWaiting newRow better bestOf revisionFrom revisionOf writesWaiting issued stillTaken allTaken beginRefusal serveRefusal deliverRefusal stopRefusal leaveRefusal begun servedRead servedWrite deliveredRead deliveredWrite playOf applyOf stepOf runFrom after wrongSize wrongVersion wrongFloor wrongByte wrongBytes wrongLabel wrongRecords fileRefusal labelOf playedOf lastRank saidBy highestRank roundAbove answeringFrom lowest exchange exchanges planOf counted advanceOf drivenBy frontRefusal soloRefusal soloOf receivedFrom linesFrom
 examples-hold = each-holds table refl

@@ -1,8 +1,7 @@
 -- The runs of the lettered examples: steps on a new floor, and what is looked at after them.
 use Prim.Native.Nat.{ℕ, zero, suc, _+_}
-use mathlib.Core.Bool.{Bool, true, false}
+use mathlib.Core.Bool.{Bool}
 use mathlib.Core.List.{List, [], _∷_, map}
-use lib.ListN.{length}
 use Rattle.base.specs.Choice.{if_then_else_}
 use Rattle.protocol.specs.Mask.{bit}
 use Rattle.register.specs.declared.Register.{Register}
@@ -15,11 +14,14 @@ use Rattle.floor.specs.declared.Row.{Row}
 use Rattle.floor.specs.declared.Floor.{Floor}
 use Rattle.floor.specs.declared.Outcome.{Outcome}
 use Rattle.floor.specs.declared.Command.{Command}
-use Rattle.floor.specs.declared.Command.the-variants.{Begin, ServeRead, ServeWrite, DeliverRead, DeliverWrite, Stop}
+use Rattle.floor.specs.declared.Command.the-variants.{Begin, ServeRead, ServeWrite, DeliverRead, DeliverWrite}
+use Rattle.solo.specs.Counted.{saidBy}
+use Rattle.solo.specs.Solo.{soloOf}
+use Rattle.solo.specs.declared.Solo.{Solo}
 use Rattle.drill_file.specs.DrillFile.{labelOf}
 use Rattle.player.specs.Played.{playedOf, lastRank}
 use Rattle.player.specs.declared.Played.{Played}
-use Rattle.examples.specs.Row.{StationLine, Printed, Answer, gathered, printed}
+use Rattle.examples.specs.Row.{StationLine, Printed, Answer, gathered, drove}
 
 -- a new floor of n boxes, with stations 0 and 1
 abbrev pub newFloor : ℕ → Floor
@@ -29,10 +31,9 @@ newFloor n = newFloorOf n 2 .floor
 abbrev pub floorAfter : ℕ → List Command → Floor
 floorAfter n cs = after (newFloor n) (map encodeOf cs)
 
--- what each of some steps says
-unfoldable pub saidFrom : Floor → List Command → List Outcome
-saidFrom f [] = []
-saidFrom f (c ∷ cs) = stepOf f (encodeOf c) .outcome ∷ saidFrom (stepOf f (encodeOf c) .floor) cs
+-- what each of them says
+abbrev pub saidAfter : ℕ → List Command → List Outcome
+saidAfter n cs = saidBy (newFloor n) (map encodeOf cs)
 
 -- the answers to a row's reads, received from the k boxes from b on
 unfoldable pub receivedFrom : ℕ → ℕ → Row → List (ℕ × ℕ)
@@ -53,6 +54,12 @@ takenAt f a = writeAt (rowAt f a) 0 .taken ∷ writeAt (rowAt f a) 1 .taken ∷ 
 
 abbrev pub heldOn : Floor → List Register
 heldOn f = boxAt f 0 .register ∷ boxAt f 1 .register ∷ boxAt f 2 .register ∷ []
+
+-- on a floor of n boxes, some steps, and then a solo finish of station 0 with revision 7
+abbrev pub soloAfter : ℕ → List Command → Answer
+soloAfter n cs =
+    let d = soloOf (floorAfter n cs) 0 7 in
+    drove (d .steps) (d .outcome)
 
 -- the lines of k stations from s on
 unfoldable pub linesFrom : ℕ → ℕ → Floor → List StationLine

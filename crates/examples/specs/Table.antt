@@ -12,7 +12,7 @@ use Rattle.floor.specs.declared.Outcome.{Outcome}
 use Rattle.floor.specs.declared.Outcome.the-variants.{Begun, Served, Received, Aborted, WriteIssued, Decided, Refused}
 use Rattle.floor.specs.declared.Command.the-variants.{DeliverRead, Stop}
 use Rattle.examples.specs.Row.{Letter, A, B, C, D, E, F, G, H, I, J, K, Printed, Answer, number, read, wrote, gathered, said, taken, held, drove, printed, Row, AllHold}
-use Rattle.examples.specs.Runs.{newFloor, floorAfter, saidFrom, gatheredBy, takenAt, heldOn, printedOf, runG, runH, runI, fileK}
+use Rattle.examples.specs.Runs.{floorAfter, saidAfter, gatheredBy, soloAfter, takenAt, heldOn, printedOf, runG, runH, runI, fileK}
 
 abbrev row : Letter → Answer → Answer → Row
 row l x y = record { letter = l; given = x; expected = y }
@@ -64,9 +64,13 @@ table =
     ∷ row H (gatheredBy 3 runH (DeliverRead 0 1) 0) (gathered 16 ((0, 0) ∷ (0, 0) ∷ []) (WriteIssued 7))
     -- "I: n = 3. Attempt 0 (rank 16, 7) has read at boxes 0 and 1. Attempt 1 (rank 17, 9) reads and writes at 1 and 2 and decides
     -- 9. Attempt 0's write is taken at 0, not at 1: it aborts. Its write at 2, served after that, is not taken."
-    ∷ row I (said (saidFrom (newFloor 3) runI)) (said saidI)
+    ∷ row I (said (saidAfter 3 runI)) (said saidI)
     ∷ row I (taken (takenAt (floorAfter 3 runI) 0)) (taken (true ∷ false ∷ false ∷ []))
     ∷ row I (held (heldOn (floorAfter 3 runI))) (held (box 16 16 7 ∷ box 17 17 9 ∷ box 17 17 9 ∷ []))
+    -- "J: solo on a new floor of 5: 13 steps; with 2 stopped, 13; with 3 stopped, refusal 15."
+    ∷ row J (soloAfter 5 []) (drove 13 (Decided 7))
+    ∷ row J (soloAfter 5 (Stop 0 ∷ Stop 3 ∷ [])) (drove 13 (Decided 7))
+    ∷ row J (soloAfter 5 (Stop 0 ∷ Stop 3 ∷ Stop 4 ∷ [])) (drove 0 (Refused 15))
     -- "K: the drill file above."
     ∷ row K (printed (printedOf fileK)) (printed luff)
     ∷ []
