@@ -1,6 +1,6 @@
--- The table's claim, by computation.
-use mathlib.Core.Path.{_≡_, refl}
-use mathlib.Core.List.{List, [], _∷_, map, head-eq-of-cons-eq, tail-eq-of-cons-eq}
+-- The claim on all rows of the table, by computation. Where a row fails, the refusal shows its letter, what was expected and what
+-- the definitions give.
+use mathlib.Core.Path.{refl}
 use lib.Count.{ones, onesIn}
 use Rattle.base.specs.Choice.{if_then_else_}
 use Rattle.base.specs.Numbers.{sizesRight}
@@ -22,15 +22,9 @@ use Rattle.solo.specs.Solo.{frontRefusal, soloRefusal, soloOf}
 use Rattle.solo.specs.Counted.{saidBy}
 use Rattle.drill_file.specs.DrillFile.{wrongSize, wrongVersion, wrongFloor, wrongByte, wrongBytes, wrongLabel, wrongRecords, fileRefusal, labelOf}
 use Rattle.player.specs.Played.{playedOf, lastRank}
-use Rattle.examples.specs.Row.{Row, Answer, AllHold}
 use Rattle.examples.specs.Runs.{receivedFrom, linesFrom}
-use Rattle.examples.specs.Table.{table, Claim}
-
--- one equation on all rows gives each row's
-each-holds : (rs : List Row) → map (λ (r : Row). r .given) rs ≡ map (λ (r : Row). r .expected) rs → AllHold rs
-each-holds [] e = tt
-each-holds (r ∷ rs) e = (head-eq-of-cons-eq e, each-holds rs (tail-eq-of-cons-eq e))
+use Rattle.examples.specs.Table.{Claim}
 
 pub examples-hold : Claim
 unfolding if_then_else_ sizesRight recordAt recordsFrom bit setBit countBelow ones onesIn rmwRead rmwWrite takes standing atQuorum stationsBelow soundOf newFloorOf allZero between requestOf departureOf commandOf placeIn readsWaiting newRow better bestOf revisionFrom revisionOf writesWaiting issued stillTaken allTaken beginRefusal serveRefusal deliverRefusal stopRefusal leaveRefusal begun servedRead servedWrite deliveredRead deliveredWrite playOf applyOf stepOf runFrom after wrongSize wrongVersion wrongFloor wrongByte wrongBytes wrongLabel wrongRecords fileRefusal labelOf playedOf lastRank saidBy highestRank roundAbove answeringFrom lowest exchange exchanges planOf counted advanceOf drivenBy frontRefusal soloRefusal soloOf receivedFrom linesFrom
-examples-hold = each-holds table refl
+examples-hold = (refl, (refl, (refl, (refl, (refl, (refl, (refl, (refl, (refl, (refl, (refl, (refl, (refl, (refl, (refl, (refl, (refl, (refl, (refl, tt)))))))))))))))))))
