@@ -17,10 +17,8 @@ use Rattle.floor.specs.declared.Command.{Command}
 use Rattle.floor.specs.declared.Command.the-variants.{Begin, ServeRead, ServeWrite, DeliverRead, DeliverWrite}
 use Rattle.solo.specs.Counted.{saidBy}
 use Rattle.solo.specs.Solo.{soloOf}
-use Rattle.solo.specs.declared.Solo.{Solo}
 use Rattle.drill_file.specs.DrillFile.{labelOf}
 use Rattle.player.specs.Played.{playedOf, lastRank}
-use Rattle.player.specs.declared.Played.{Played}
 use Rattle.examples.specs.Row.{StationLine, Printed, Answer, gathered, drove}
 
 -- a new floor of n boxes, with stations 0 and 1

@@ -1,12 +1,10 @@
 -- Document 01, "Floors worked through": the lettered examples, one row or more for each.
 use Prim.Native.Nat.{ℕ}
-use mathlib.Core.Bool.{Bool, true, false}
+use mathlib.Core.Bool.{true, false}
 use mathlib.Core.List.{List, [], _∷_}
 use Rattle.base.specs.Numbers.{quorum, rankOf}
 use Rattle.register.specs.Register.{rmwRead, rmwWrite}
 use Rattle.register.specs.declared.Register.{Register}
-use Rattle.register.specs.declared.ReadDone.{ReadDone}
-use Rattle.register.specs.declared.WriteDone.{WriteDone}
 use Rattle.floor.specs.declared.Phase.the-variants as phase
 use Rattle.floor.specs.declared.Outcome.{Outcome}
 use Rattle.floor.specs.declared.Outcome.the-variants.{Begun, Served, Received, Aborted, WriteIssued, Decided, Refused}

@@ -1,12 +1,12 @@
 -- Laws of the tally.
-use Prim.Native.Nat.{ℕ, zero, suc, _+_, _-_, _≤_, _<_, _^_, max, min}
-use native.Mathlib.Nat.{le-refl, le-max-left, le-max-right, max-eq-left, max-eq-right, zero-min, min-zero, suc-min-suc, le-of-suc-le-suc, not-suc-le-zero, le-trans, le-of-lt, eq-zero-or-pos, suc-ne-zero}
+use Prim.Native.Nat.{ℕ, zero, suc, _+_, _≤_, _<_, _^_, max, min}
+use native.Mathlib.Nat.{le-refl, le-max-left, le-max-right, max-eq-left, max-eq-right, zero-min, min-zero, suc-min-suc, not-suc-le-zero, le-trans, le-of-lt, eq-zero-or-pos, suc-ne-zero}
 use native.Mathlib.Numerals.{add-one}
 use native.Mathlib.Omega.{arith}
 use mathlib.Core.Path.{_≡_, refl, sym, ap, subst, _∙_}
 use mathlib.Core.Logic.{_⊎_, inl, inr}
 use mathlib.Core.Bool.{Bool, true, false}
-use mathlib.Core.List.{List, [], _∷_}
+use mathlib.Core.List.{List, [], _∷_, List·Memᴰ, List·Memᴰ·head, List·Memᴰ·tail, List·Memᴰ·not-nil}
 use lib.Dec.{ltb}
 use borrow.Author.Tests.{ltb-true, ltb-false}
 use lib.ListN.{length, getD, take, drop, drop-of-length-le}
@@ -14,7 +14,7 @@ use lib.Seq.{drop-cons}
 use Rattle.base.specs.Choice.{if_then_else_}
 use Rattle.base.proofs.Choices.{on-true, on-false}
 use Rattle.register.specs.declared.StorageBox.{StorageBox}
-use Rattle.tally.specs.Tally.{notStopped, highestWrite, tallyOf, withBox, box0, Counts, Tallied}
+use Rattle.tally.specs.Tally.{notStopped, highestWrite, tallyOf, withBox, Counts, Tallied}
 use Rattle.tally.specs.declared.Tally.{Tally}
 
 -- a tally begins with 0 and 0
@@ -69,22 +69,15 @@ take-min (suc n) [] = rw min-zero refl
 take-min {A = A} (suc n) (x ∷ l) = rw suc-min-suc (ap (λ (k : List A). x ∷ k) (take-min n l))
 
 -- ---- the tally as facts
--- the boxes behind the first, at places one lower
-counts-behind : {b : StorageBox} {bs : List StorageBox} {i : ℕ} → Counts (b ∷ bs) (suc i) → Counts bs i
-counts-behind c = record { within = le-of-suc-le-suc (c .within); going = c .going }
-
-counts-before : {b : StorageBox} {bs : List StorageBox} {i : ℕ} → Counts bs i → Counts (b ∷ bs) (suc i)
-counts-before c = record { within = omega (arith, c .within); going = c .going }
-
 -- no box that has not stopped has a higher write rank
 most-behind : (s : Bool) (b : StorageBox) (bs : List StorageBox) (r : ℕ) → b .stopped ≡ s → r ≤ tallyOf bs .highest → r ≤ tallyOf (b ∷ bs) .highest
 most-behind true b bs r e h = rw (tally-stopped b bs e) h
 most-behind false b bs r e h = rw (tally-going b bs e) (le-trans h (le-max-left (tallyOf bs .highest) (b .register .write)))
 
-most : (bs : List StorageBox) (i : ℕ) → Counts bs i → getD bs i box0 .register .write ≤ tallyOf bs .highest
-most [] i c = absurd (not-suc-le-zero (c .within))
-most (b ∷ bs) zero c = rw (tally-going b bs (c .going)) (le-max-right (tallyOf bs .highest) (b .register .write))
-most (b ∷ bs) (suc i) c = most-behind (b .stopped) b bs _ refl (most bs i (counts-behind c))
+most : (bs : List StorageBox) (x : StorageBox) → List·Memᴰ x bs → x .stopped ≡ false → x .register .write ≤ tallyOf bs .highest
+most [] x m e = absurd (List·Memᴰ·not-nil m)
+most (b ∷ bs) x (List·Memᴰ·head q) e = rw (q, tally-going b bs (rw q at e)) (le-max-right (tallyOf bs .highest) (b .register .write))
+most (b ∷ bs) x (List·Memᴰ·tail m) e = most-behind (b .stopped) b bs (x .register .write) refl (most bs x m e)
 
 -- where none is counted the rank is 0
 none-left : (l : List StorageBox) → length l ≡ 0 → highestWrite l ≡ 0
@@ -97,23 +90,23 @@ unfolding tallyOf
 none-counted bs e = none-left (notStopped bs) e
 
 -- where all have stopped none is counted
-all-stopped : (bs : List StorageBox) → ((i : ℕ) → i < length bs → getD bs i box0 .stopped ≡ true) → tallyOf bs .count ≡ 0
-all-stopped [] h = rw tally-nil refl
-all-stopped (b ∷ bs) h = ap (λ (t : Tally). t .count) (tally-stopped b bs (h 0 (omega arith))) ∙ all-stopped bs (λ i l. h (suc i) (omega (arith, l)))
+all-stopped : (bs : List StorageBox) → ((b : StorageBox) → List·Memᴰ b bs → b .stopped ≡ true) → tallyOf bs .count ≡ 0
+all-stopped [] h = ap (λ (t : Tally). t .count) tally-nil
+all-stopped (b ∷ bs) h = ap (λ (t : Tally). t .count) (tally-stopped b bs (h b (List·Memᴰ·head refl))) ∙ all-stopped bs (λ x m. h x (List·Memᴰ·tail m))
 
 -- some box that has not stopped has this write rank
 abbrev Reached : List StorageBox → ℕ → Type 0
-Reached bs r = (i : ℕ) × (Counts bs i × (getD bs i box0 .register .write ≡ r))
+Reached bs r = (b : StorageBox) × (Counts bs b × (b .register .write ≡ r))
 
 reached-behind : (b : StorageBox) (bs : List StorageBox) (r : ℕ) → Reached bs r → Reached (b ∷ bs) r
-reached-behind b bs r x = (suc (x .0), (counts-before (x .1 .0), x .1 .1))
+reached-behind b bs r x = (x .0, (record { member = List·Memᴰ·tail (x .1 .0 .member); going = x .1 .0 .going }, x .1 .1))
 
 -- the first box has the larger of two ranks, or one behind it
 first-or-behind : (b : StorageBox) (bs : List StorageBox) (h : ℕ) (t : Bool) → ltb (b .register .write) h ≡ t → b .stopped ≡ false → (0 < h → Reached bs h) → Reached (b ∷ bs) (max h (b .register .write))
 first-or-behind b bs h true l f k =
     let lt : b .register .write < h = ltb-true (b .register .write) h l in
     subst (Reached (b ∷ bs)) (sym (max-eq-left (le-of-lt lt))) (reached-behind b bs h (k (omega (arith, lt))))
-first-or-behind b bs h false l f k = (0, (record { within = omega arith; going = f }, sym (max-eq-right (ltb-false (b .register .write) h l))))
+first-or-behind b bs h false l f k = (b, (record { member = List·Memᴰ·head refl; going = f }, sym (max-eq-right (ltb-false (b .register .write) h l))))
 
 -- a rank above 0 is that of a box which is counted
 some-counted : (bs : List StorageBox) → 0 < tallyOf bs .highest → 0 < tallyOf bs .count
@@ -137,7 +130,7 @@ pub tallied : (bs : List StorageBox) → Tallied bs (tallyOf bs)
 unfolding tallyOf
 tallied bs = record {
   count = refl;
-  most = most bs;
+  most = λ b c. most bs b (c .member) (c .going);
   reached = reached bs;
   none = λ h. (all-stopped bs h, none-counted bs (all-stopped bs h));
 }

@@ -3,8 +3,8 @@
 use Prim.Native.Nat.{ℕ, _+_, _≤_, _<_, max}
 use mathlib.Core.Path.{_≡_}
 use mathlib.Core.Bool.{true, false}
-use mathlib.Core.List.{List, [], _∷_}
-use lib.ListN.{length, getD}
+use mathlib.Core.List.{List, [], _∷_, List·Memᴰ}
+use lib.ListN.{length}
 use Rattle.base.specs.Choice.{if_then_else_}
 use Rattle.register.specs.declared.StorageBox.{StorageBox}
 use Rattle.tally.specs.declared.Tally.{Tally}
@@ -27,21 +27,17 @@ tallyOf bs = record { count = length (notStopped bs); highest = highestWrite (no
 unfoldable pub withBox : StorageBox → Tally → Tally
 withBox b t = if b .stopped then t else record { count = t .count + 1; highest = max (t .highest) (b .register .write) }
 
--- what is read past the end of a run by the language's own rule
-abbrev pub box0 : StorageBox
-box0 = record { register = record { read = 0; write = 0; value = 0 }; stopped = false }
-
--- box i of a run has not stopped
-pub record Counts (bs : List StorageBox) (i : ℕ) : Type 0 where
-  pub within : i < length bs
-  pub going : getD bs i box0 .stopped ≡ false
+-- a box of a run that has not stopped
+pub record Counts (bs : List StorageBox) (b : StorageBox) : Type 0 where
+  pub member : List·Memᴰ b bs
+  pub going : b .stopped ≡ false
 
 -- the tally as facts
 pub record Tallied (bs : List StorageBox) (t : Tally) : Type 0 where
   -- "how many have not stopped"
   pub count : t .count ≡ length (notStopped bs)
   -- "the highest write rank among those": none of them has a higher one, and one of them has it
-  pub most : (i : ℕ) → Counts bs i → getD bs i box0 .register .write ≤ t .highest
-  pub reached : 0 < t .count → (i : ℕ) × (Counts bs i × (getD bs i box0 .register .write ≡ t .highest))
+  pub most : (b : StorageBox) → Counts bs b → b .register .write ≤ t .highest
+  pub reached : 0 < t .count → (b : StorageBox) × (Counts bs b × (b .register .write ≡ t .highest))
   -- "a run with none of these, or empty, gives 0 and 0"
-  pub none : ((i : ℕ) → i < length bs → getD bs i box0 .stopped ≡ true) → (t .count ≡ 0) × (t .highest ≡ 0)
+  pub none : ((b : StorageBox) → List·Memᴰ b bs → b .stopped ≡ true) → (t .count ≡ 0) × (t .highest ≡ 0)

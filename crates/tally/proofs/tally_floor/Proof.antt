@@ -1,18 +1,14 @@
 use Prim.Native.Nat.{ℕ, suc, _-_, _≤_, _<_, min}
 use native.Mathlib.Nat.{min-le-right, min-le-left}
 use native.Mathlib.Omega.{arith}
-use mathlib.Core.Path.{_≡_, refl, sym, ap, _∙_}
+use mathlib.Core.Path.{_≡_, sym, ap, _∙_}
 use lib.ListN.{length, take, drop, length-take, length-drop}
 use lib.Seq.{getD-take}
-use Rattle.tally.specs.Tally.{tallyOf, withBox, box0}
+use Rattle.tally.specs.Tally.{tallyOf, withBox}
 use Rattle.register.specs.declared.StorageBox.{StorageBox}
 use Rattle.tally.proofs.TallyLaws.{tally-at, tally-end, count-fits}
 use Rattle.tally.proofs.tally_floor.Statement.{statement}
 use Rattle.tally.proofs.tally_floor.Tie as tie
-use Rattle.tally.proofs.tally_floor.Reads as reads
-use Rattle.tally.proofs.tally_floor.Lts as lts
-use Rattle.tally.proofs.at_most.Reads as at-most-reads
-use Rattle.tally.proofs.with_box.Reads as with-box-reads
 
 abbrev Inv-loop : tie.InvT-loop
 Inv-loop n boxes t₀ left₀ t left = (left ≤ length (take n boxes)) × ((length boxes ≡ 9) × (t ≡ tallyOf (drop left (take n boxes))))
@@ -61,8 +57,8 @@ loop-again c =
       omega arith,
       (
         l .inv .1 .0,
-        tally-at (take (a .n) (a .t1)) (l .left) (l .left - 1) box0 (l .t) (c .with-box .result) next (omega arith) (l .inv .1 .1)
-            (c .with-box .ensures ∙ ap (λ (b : StorageBox). withBox b (l .t)) (sym (getD-take (a .n) (a .t1) (l .left - 1) box0 inside))),
+        tally-at (take (a .n) (a .t1)) (l .left) (l .left - 1) _ (l .t) (c .with-box .result) next (omega arith) (l .inv .1 .1)
+            (c .with-box .ensures ∙ ap (λ (b : StorageBox). withBox b (l .t)) (sym (getD-take (a .n) (a .t1) (l .left - 1) _ inside))),
       ),
     )
 

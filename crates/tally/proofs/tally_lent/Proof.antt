@@ -7,20 +7,13 @@ use Rattle.tally.specs.Tally.{tallyOf}
 use Rattle.tally.proofs.TallyLaws.{take-min}
 use Rattle.tally.proofs.tally_lent.Statement.{statement}
 use Rattle.tally.proofs.tally_lent.Tie as tie
-use Rattle.tally.proofs.tally_lent.Reads as reads
-use Rattle.tally.proofs.tally_lent.Lts as lts
-use Rattle.tally.proofs.at_most.Reads as at-most-reads
-use Rattle.tally.proofs.lend.Reads as lend-reads
 
--- src/lib.rt:92:17
 at-most-requires : tie.Need-at-most-requires
 at-most-requires c κs = search needs
 
--- src/lib.rt:92:5
 lend-requires : tie.Need-lend-requires
 lend-requires c κs = search needs
 
--- src/lib.rt:89:1
 returns : tie.Need-returns
 returns c =
     let a = c .before .before .args in

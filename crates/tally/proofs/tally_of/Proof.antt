@@ -1,11 +1,11 @@
 -- `tally::tally_of` meets its contract: a walk of its MIR, by hand. The loop goes from the last box to the first; where i boxes are
 -- left, the local holds the tally of the boxes from i on. A turn reads box j of the lent run and calls `with_box` on it and on the
 -- tally so far. Of `with_box` the proof knows only that it meets its contract.
-use mathlib.Core.Path.{_≡_, refl, sym, _∙_, ap, subst}
+use mathlib.Core.Path.{_≡_, refl, sym, ap, subst}
 use Prim.Native.Nat.{ℕ, zero, suc, _+_, _-_, _*_, _≤_, _<_, _^_}
 use native.Mathlib.Nat.{le-refl, lt-suc-self}
 use native.Mathlib.Omega.{arith}
-use mathlib.Core.Bool.{Bool, true, false}
+use mathlib.Core.Bool.{Bool, true}
 use mathlib.Core.List.{List, [], _∷_}
 use mathlib.Core.WellFounded.{WellFounded, InvImage·wf}
 use lib.WfN.{Nat·lt-wfRel}
