@@ -46,7 +46,11 @@ pub fn decode(r: [u8; 8]) -> Command
 {
     let kind = r[0];
     match kind {
-        1 => Command::Begin(r[1], base::be16(r[2], r[3]), base::be32(r[4], r[5], r[6], r[7])),
+        1 => Command::Begin(
+            r[1],
+            base::be16(r[2], r[3]),
+            base::be32(r[4], r[5], r[6], r[7]),
+        ),
         2..=5 => {
             if zeros(r, 3) {
                 request(kind, r[1], r[2])
@@ -70,7 +74,16 @@ pub fn command_at(s: &[u8], at: usize) -> Command
     requires { ⌜ at + 8 ≤ length (now s) ⌝ }
     ensures { λ c. ⌜ c ≡ commandOf (recordAt (now (s .entry)) at) ⌝ }
 {
-    decode([s[at], s[at + 1], s[at + 2], s[at + 3], s[at + 4], s[at + 5], s[at + 6], s[at + 7]])
+    decode([
+        s[at],
+        s[at + 1],
+        s[at + 2],
+        s[at + 3],
+        s[at + 4],
+        s[at + 5],
+        s[at + 6],
+        s[at + 7],
+    ])
 }
 
 // The record of a command; that of `Malformed` is zeros.

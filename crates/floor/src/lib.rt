@@ -13,11 +13,11 @@ ghost use Rattle.floor.specs.Runs.{runOf};
 use register::Register;
 use register::StorageBox;
 
-mod masks;
-mod states;
 mod commands;
-mod rows;
 mod kinds;
+mod masks;
+mod rows;
+mod states;
 
 // Tests that callers of a step make of what it hands back.
 pub use states::busy;

@@ -10,4 +10,3 @@ pub mod Accepted
 pub mod Course
 pub mod Decides
 pub mod PlanRecords
-pub mod Examples
