@@ -7,7 +7,7 @@ pub mod RoundLaws
 pub mod LawfulLaws
 pub mod Requests
 pub mod Accepted
-pub mod Course
+pub mod Driven
 pub mod Decides
 pub mod Alones
 pub mod Examples

@@ -1,8 +1,4 @@
 use borrow.Author.Needs.{needs}
-use mathlib.Core.Path.{_∙_, ap}
-use lib.Dec.{eqb}
-use Rattle.floor.specs.Step.{numberOf}
-use Rattle.floor.specs.declared.Stepped.{Stepped}
 use Rattle.solo.proofs.FrontLaws.{sound-told}
 use Rattle.solo.proofs.sound.Statement.{statement}
 use Rattle.solo.proofs.sound.Tie as tie
