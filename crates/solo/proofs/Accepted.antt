@@ -1,8 +1,8 @@
 -- A step whose tests are passed is accepted: what it comes to on a sound floor.
-use Prim.Native.Nat.{ℕ, _<_, _≤_}
+use Prim.Native.Nat.{ℕ}
 use native.Mathlib.Omega.{arith}
-use mathlib.Core.Path.{_≡_, refl, sym, ap, _∙_}
-use mathlib.Core.Logic.{_⊎_, inl, inr}
+use mathlib.Core.Path.{_≡_, refl}
+use mathlib.Core.Logic.{inl, inr}
 use mathlib.Core.Bool.{Bool, true, false}
 use Rattle.floor.specs.State.{rowAt, isReading, isWriting, atQuorum}
 use Rattle.floor.specs.Sound.{Sound}
@@ -12,7 +12,7 @@ use Rattle.floor.specs.Step.{look, applyOf}
 use Rattle.floor.proofs.SoundLaws.{sound-holds}
 use Rattle.floor.proofs.Standings.{clash}
 use Rattle.floor.proofs.RefusalLaws.{begin-holds, serve-holds, deliver-holds}
-use Rattle.floor.proofs.Forms.{ownerAt, readHeard, writeHeard, withRow, stepped, afterBegin, afterServeRead, afterServeWrite, afterIssue, afterDecision, begin-look, request-look}
+use Rattle.floor.proofs.Forms.{ownerAt, readHeard, writeHeard, withRow, stepped, afterBegin, afterServeRead, afterServeWrite, afterIssue, afterDecision, afterAbort, begin-look, request-look}
 use Rattle.floor.proofs.View.{CanBegin, CanServe, CanDeliver, TurnedBack, StepView, turned, began, read-served, write-served, read-heard, issued, write-heard, decided, aborted, apply-view}
 use Rattle.floor.specs.declared.Floor.{Floor}
 use Rattle.floor.specs.declared.Stepped.{Stepped}
@@ -81,7 +81,7 @@ module _ (f : Floor) (z : Sound f) where
           ≡ stepped (afterIssue f a (readHeard f a b) (revisionOf (readHeard f a b) (f .n))) (said.WriteIssued (revisionOf (readHeard f a b) (f .n)))
       write-issued q = issues q (apply-view f (DeliverRead a b))
 
-    -- and of its writes, where all say taken
+    -- and of its writes
     module _ (d : CanDeliver f true a b) (r : isWriting (ownerAt f a .state) a ≡ true) where
       writes-on : {x : Stepped} → atQuorum (writeHeard f a b .writers) (f .n) ≡ false → StepView f (DeliverWrite a b) x
           → x ≡ stepped (withRow f a (writeHeard f a b)) (said.Received a)
@@ -105,3 +105,15 @@ module _ (f : Floor) (z : Sound f) where
       pub write-decided : atQuorum (writeHeard f a b .writers) (f .n) ≡ true → allTaken (rowAt f a .writes) (writeHeard f a b .writers) (f .n) ≡ true
           → applyOf f (DeliverWrite a b) ≡ stepped (afterDecision f a (writeHeard f a b)) (said.Decided (rowAt f a .written))
       write-decided q u = decides q u (apply-view f (DeliverWrite a b))
+
+      aborts : {x : Stepped} → atQuorum (writeHeard f a b .writers) (f .n) ≡ true → allTaken (rowAt f a .writes) (writeHeard f a b .writers) (f .n) ≡ false
+          → StepView f (DeliverWrite a b) x → x ≡ stepped (afterAbort f a (writeHeard f a b)) (said.Aborted a)
+      aborts q u (turned k t) = not-turned z (deliver-passes true a b d) t
+      aborts q u (write-heard _ _ (inl e)) = clash r e
+      aborts q u (write-heard _ _ (inr e)) = clash q e
+      aborts q u (decided _ _ _ _ e) = clash e u
+      aborts q u (aborted _ _ _ _ _) = refl
+
+      pub write-aborted : atQuorum (writeHeard f a b .writers) (f .n) ≡ true → allTaken (rowAt f a .writes) (writeHeard f a b .writers) (f .n) ≡ false
+          → applyOf f (DeliverWrite a b) ≡ stepped (afterAbort f a (writeHeard f a b)) (said.Aborted a)
+      write-aborted q u = aborts q u (apply-view f (DeliverWrite a b))

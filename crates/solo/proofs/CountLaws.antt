@@ -1,9 +1,9 @@
 -- The number of a solo finish's steps is the length of the part of its plan that leads to the floor it hands back.
-use Prim.Native.Nat.{ℕ, zero, suc, _+_, _≤_}
+use Prim.Native.Nat.{ℕ, suc, _+_, _≤_}
 use native.Mathlib.Omega.{arith}
 use native.Mathlib.Nat.{zero-add}
-use mathlib.Core.Path.{_≡_, refl, sym, ap, _∙_}
-use mathlib.Core.Bool.{Bool, true, false}
+use mathlib.Core.Path.{_≡_, refl, sym, _∙_}
+use mathlib.Core.Bool.{true, false}
 use mathlib.Core.List.{List, [], _∷_, _++_}
 use lib.ListN.{length, take}
 use lib.Seq.{length-take-le}
@@ -21,19 +21,13 @@ use Rattle.solo.specs.Solo.{turnedBack, soloOf}
 use Rattle.floor.specs.Runs.{after}
 use Rattle.solo.specs.Counted.{saidBy, AllAccepted, lastSaid, Counted}
 use Rattle.solo.specs.declared.Solo.{Solo}
-use Rattle.solo.proofs.DriveLaws.{advance-over}
+use Rattle.solo.proofs.DriveLaws.{driven-over}
 
 -- one list of steps after another
 pub after-append : (f : Floor) (xs ys : List (List ℕ)) → after f (xs ++ ys) ≡ after (after f xs) ys
 unfolding after
 after-append f [] ys = refl
 after-append f (x ∷ xs) ys = after-append (stepOf f x .floor) xs ys
-
--- where it is over, no record is taken
-over : (d : Solo) (rs : List (List ℕ)) → goesOn (d .outcome) ≡ false → drivenBy d rs ≡ d
-unfolding drivenBy
-over d [] e = refl
-over d (r ∷ rs) e = ap (λ (x : Solo). drivenBy x rs) (sym (advance-over d r e)) ∙ over d rs e
 
 refused-over : (o : Outcome) → isRefused o ≡ true → goesOn o ≡ false
 refused-over (Begun a) e = clash e refl
@@ -72,10 +66,10 @@ taken [] d = none-taken d [] d refl refl (λ _. refl)
 taken (r ∷ rs) d =
     by-test (λ (e : Solo). Taken d (r ∷ rs) (drivenBy e rs)) (goesOn (d .outcome)) _ d
     (λ _. by-test (λ (k : ℕ). Taken d (r ∷ rs) (drivenBy (stopped k) rs)) (isRefused (s .outcome)) (d .steps) (d .steps + 1)
-    (λ e. rw (over (stopped (d .steps)) rs (refused-over (s .outcome) e))
+    (λ e. rw (driven-over (stopped (d .steps)) rs (refused-over (s .outcome) e))
     (none-taken d (r ∷ rs) (stopped (d .steps)) refl (step-refused-same (d .floor) r e) (λ o. clash e o)))
     (λ e. one-taken d r rs _ e (taken rs (stopped (d .steps + 1)))))
-    (λ e. rw (over d rs e) (none-taken d (r ∷ rs) d refl refl (λ _. refl)))
+    (λ e. rw (driven-over d rs e) (none-taken d (r ∷ rs) d refl refl (λ _. refl)))
   where
     s : Stepped
     s = stepOf (d .floor) r

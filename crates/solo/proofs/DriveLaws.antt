@@ -6,7 +6,7 @@ use mathlib.Core.Bool.{true, false}
 use mathlib.Core.List.{List, [], _∷_, _++_}
 use lib.ListN.{length}
 use Rattle.base.proofs.Choices.{on-true, on-false, by-test}
-use Rattle.floor.specs.Commands.{commandOf, encodeOf}
+use Rattle.floor.specs.Commands.{encodeOf}
 use Rattle.floor.specs.Step.{isRefused, applyOf, stepOf}
 use Rattle.floor.proofs.Encodings.{decode-encode}
 use Rattle.floor.specs.declared.Floor.{Floor}
@@ -66,3 +66,9 @@ pub driven-append : (d : Solo) (xs ys : List (List ℕ)) → drivenBy d (xs ++ y
 unfolding drivenBy
 driven-append d [] ys = refl
 driven-append d (x ∷ xs) ys = driven-append (advanceOf d x) xs ys
+
+-- where it is over, no record is taken
+pub driven-over : (d : Solo) (rs : List (List ℕ)) → goesOn (d .outcome) ≡ false → drivenBy d rs ≡ d
+unfolding drivenBy
+driven-over d [] e = refl
+driven-over d (r ∷ rs) e = ap (λ (x : Solo). drivenBy x rs) (sym (advance-over d r e)) ∙ driven-over d rs e

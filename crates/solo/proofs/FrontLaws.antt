@@ -1,10 +1,10 @@
 -- The refusals up front: what it means that none applies, and what comes of each case.
 use Prim.Native.Nat.{ℕ, _≤_, _<_}
 use native.Mathlib.Omega.{arith}
-use mathlib.Core.Path.{_≡_, refl, sym, ap, _∙_}
+use mathlib.Core.Path.{_≡_, refl, sym, _∙_}
 use mathlib.Core.Bool.{Bool, true, false}
 use lib.ListN.{length}
-use borrow.Author.Tests.{leb-false, lt-leb, ltb-false, le-ltb, eqb-false, eq-eqb, ne-eqb}
+use borrow.Author.Tests.{leb-false, lt-leb, ltb-false, le-ltb, eq-eqb, ne-eqb}
 use Rattle.base.specs.Numbers.{quorum}
 use Rattle.base.proofs.Choices.{on-true, on-false, passed}
 use Rattle.floor.specs.State.{stationAt, isGone, isBusy}
@@ -71,6 +71,11 @@ module _ (f : Floor) (s v : ℕ) where
   pub refusal-sound : soundOf f ≡ true → soloRefusal f s v ≡ frontRefusal f s v (roundOf f s)
   unfolding soloRefusal
   refusal-sound e = sym (on-true _ e refl)
+
+  -- no refusal: the floor is sound, and none of the others applies
+  pub refusal-zero : soloRefusal f s v ≡ 0 → frontRefusal f s v (roundOf f s) ≡ 0
+  unfolding soloRefusal
+  refusal-zero = by-test (λ (k : ℕ). k ≡ 0 → frontRefusal f s v (roundOf f s) ≡ 0) (soundOf f) _ _ (λ _ e. e) (λ _ e. absurd (omega (arith, e)))
 
 -- the code's three ends: the floor is not sound; a later refusal applies; none does
 pub ends-unsound : (f : Floor) (s v : ℕ) (r : Solo) → soundOf f ≡ false → r ≡ turnedBack f 6 → r ≡ soloOf f s v

@@ -1,15 +1,14 @@
 -- A new floor is lawful, and every step keeps a lawful floor lawful.
-use Prim.Native.Nat.{ℕ, _+_, _≤_, _<_}
+use Prim.Native.Nat.{ℕ, _+_, _≤_}
 use native.Mathlib.Omega.{arith}
-use mathlib.Core.Path.{_≡_, refl, sym, ap, subst, _∙_}
-use mathlib.Core.Logic.{_⊎_, inl, inr}
+use mathlib.Core.Path.{_≡_, refl, ap, subst, _∙_}
+use mathlib.Core.Logic.{inl, inr}
 use mathlib.Core.List.{List, [], _∷_}
-use lib.ListN.{getD, set}
+use lib.ListN.{set}
 use lib.Seq.{getD-set-same}
 use Rattle.base.specs.Numbers.{sizesRight, rankOf}
 use Rattle.base.proofs.Choices.{by-test}
-use Rattle.register.specs.declared.StorageBox.{StorageBox}
-use Rattle.floor.specs.State.{box0, station0, row0, rowAt, stationAt}
+use Rattle.floor.specs.State.{box0, station0, row0}
 use Rattle.floor.specs.Floors.{emptyFloor, newFloorOf}
 use Rattle.floor.specs.Rows.{newRow}
 use Rattle.floor.specs.Commands.{commandOf}
@@ -18,21 +17,21 @@ use Rattle.floor.proofs.Standings.{clash}
 use Rattle.floor.proofs.Stores.{getD-same}
 use Rattle.base.proofs.SizeLaws.{Sizes, sizes-mean}
 use Rattle.floor.proofs.View.{StepView, turned, began, apply-view}
-use Rattle.floor.proofs.Keeps.{Lengths, apply-keeps, apply-lengths, empty-sound, empty-lengths}
+use Rattle.floor.specs.Sound.{Lengths}
+use Rattle.floor.proofs.Keeps.{apply-keeps, apply-lengths, empty-sound, empty-lengths}
 use Rattle.floor.proofs.BoxLaws.{box-grown}
 use Rattle.floor.proofs.RowLaws.{apply-used, row-same}
-use Rattle.floor.proofs.StationLaws.{BeginsLast, last-from}
+use Rattle.floor.proofs.StationLaws.{last-from}
 use Rattle.floor.specs.declared.Row.{Row}
 use Rattle.floor.specs.declared.Station.{Station}
 use Rattle.floor.specs.declared.Floor.{Floor}
 use Rattle.floor.specs.declared.NewFloor.{NewFloor}
 use Rattle.floor.specs.declared.Stepped.{Stepped}
-use Rattle.floor.specs.declared.Outcome.{Outcome}
 use Rattle.floor.specs.declared.Outcome.the-variants.{Begun}
 use Rattle.floor.specs.declared.Command.{Command}
 use Rattle.floor.specs.declared.Command.the-variants.{Begin}
-use Rattle.solo.specs.Plan.{highestRank, highestBegun}
 use Rattle.floor.specs.Runs.{after}
+use Rattle.solo.specs.Plan.{highestBegun}
 use Rattle.solo.specs.Progress.{Lawful}
 use Rattle.solo.proofs.RoundLaws.{highest-each, highest-most}
 

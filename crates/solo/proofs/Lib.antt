@@ -7,6 +7,6 @@ pub mod RoundLaws
 pub mod LawfulLaws
 pub mod Requests
 pub mod Accepted
-pub mod Course
+pub mod Driven
 pub mod Decides
 pub mod PlanRecords

@@ -4,8 +4,8 @@ use native.Mathlib.Omega.{arith}
 use native.Mathlib.Nat.{sub-zero}
 use mathlib.Core.Path.{_≡_, refl, sym, ap, _∙_}
 use mathlib.Core.Bool.{Bool, true, false}
-use mathlib.Core.List.{List, [], _∷_, _++_}
-use lib.ListN.{length, getD, take}
+use mathlib.Core.List.{List, [], _++_}
+use lib.ListN.{getD, take}
 use Rattle.base.specs.Numbers.{quorum}
 use Rattle.register.specs.declared.StorageBox.{StorageBox}
 use Rattle.floor.specs.State.{box0}

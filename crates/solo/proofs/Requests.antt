@@ -2,15 +2,13 @@
 -- counted. What is shown of the reads and of the writes alike is shown of a stage for each box and a mask.
 use Prim.Native.Nat.{ℕ, zero, suc, _+_, _≤_, _<_}
 use native.Mathlib.Omega.{arith}
-use native.Mathlib.Nat.{le-refl}
-use native.Mathlib.Decide.{ℕ-discrete}
 use mathlib.Core.Path.{_≡_, refl, sym, ap, subst, _∙_}
 use mathlib.Core.Bool.{Bool, true, false}
 use mathlib.Core.List.{List}
 use lib.ListN.{length, getD}
 use borrow.Author.Tests.{eq-eqb, ne-eqb}
 use Rattle.base.specs.Numbers.{quorum}
-use Rattle.base.proofs.Choices.{on-true, on-false, by-test}
+use Rattle.base.proofs.Choices.{on-true, by-test}
 use Rattle.protocol.specs.Mask.{bit, setBit, countBelow}
 use Rattle.protocol.proofs.MaskLaws.{bit-zero, bit-other, count-zero, count-more, added}
 use Rattle.floor.specs.State.{readSlot0, writeSlot0, standing, isWaiting, isOnTheWay, atQuorum}

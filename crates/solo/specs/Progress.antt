@@ -6,12 +6,12 @@ use mathlib.Core.Logic.{_⊎_}
 use lib.ListN.{length}
 use Rattle.base.specs.Numbers.{quorum, rankOf}
 use Rattle.floor.specs.State.{boxAt, stationAt}
-use Rattle.floor.specs.Sound.{Sound}
-use Rattle.floor.proofs.Keeps.{Lengths}
+use Rattle.floor.specs.Sound.{Sound, Lengths}
 use Rattle.floor.specs.declared.Phase.the-variants.{Idle}
 use Rattle.floor.specs.declared.Floor.{Floor}
-use Rattle.floor.specs.declared.Outcome.the-variants.{Decided}
+use Rattle.floor.specs.declared.Outcome.the-variants.{Aborted, Decided}
 use Rattle.solo.specs.Plan.{highestBegun, roundOf, answering}
+use Rattle.solo.specs.Solo.{turnedBack}
 use Rattle.solo.specs.declared.Solo.{Solo}
 
 -- What holds of a new floor and is kept by every step: no box has served, and no station has begun, a rank above the highest
@@ -37,3 +37,10 @@ pub record Decides (f : Floor) (d : Solo) : Type 0 where
   pub revision : ℕ
   pub said : d .outcome ≡ Decided revision
   pub steps : d .steps ≡ 4 * quorum (f .n) + 1
+
+-- What a solo finish on any floor comes to, one built by hand too: it is turned back with 0 steps and leaves the floor, or it takes
+-- 4q + 1 steps, at the last of which the station decides or the attempt, the floor's next row, aborts.
+pub data Ends (f : Floor) (d : Solo) : Type 0 where
+  refused : (k : ℕ) → d ≡ turnedBack f k → Ends f d
+  decided : (v : ℕ) → d .outcome ≡ Decided v → d .steps ≡ 4 * quorum (f .n) + 1 → Ends f d
+  aborted : d .outcome ≡ Aborted (f .used) → d .steps ≡ 4 * quorum (f .n) + 1 → Ends f d

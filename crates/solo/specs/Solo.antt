@@ -1,6 +1,5 @@
 -- Document 01, "Solo finish", and its refusals: "Solo finish: 6, 8 to 12, 15".
 use Prim.Native.Nat.{ℕ}
-use mathlib.Core.Bool.{Bool, true, false}
 use lib.ListN.{length}
 use lib.Dec.{eqb, leb, ltb}
 use Rattle.base.specs.Choice.{if_then_else_}

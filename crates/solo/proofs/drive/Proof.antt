@@ -1,5 +1,4 @@
 use borrow.Author.Needs.{needs}
-use native.Mathlib.Omega.{arith}
 use Rattle.solo.proofs.DriveLaws.{counted-steps}
 use Rattle.solo.proofs.PhaseLaws.{phase-steps, drive-whole}
 use Rattle.solo.proofs.drive.Statement.{statement}

@@ -1,7 +1,6 @@
 use borrow.Author.Needs.{needs}
 use native.Mathlib.Omega.{arith}
 use mathlib.Core.Path.{_∙_}
-use Rattle.floor.specs.Commands.{encodeOf}
 use Rattle.solo.specs.Plan.{exchange}
 use Rattle.solo.specs.Drive.{drivenBy}
 use Rattle.solo.proofs.DriveLaws.{advance-steps}
