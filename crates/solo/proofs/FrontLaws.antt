@@ -6,7 +6,7 @@ use mathlib.Core.Bool.{Bool, true, false}
 use lib.ListN.{length}
 use borrow.Author.Tests.{leb-false, lt-leb, ltb-false, le-ltb, eq-eqb, ne-eqb}
 use Rattle.base.specs.Numbers.{quorum}
-use Rattle.base.proofs.Choices.{on-true, on-false, passed}
+use Rattle.base.proofs.Choices.{on-true, on-false, by-test, passed}
 use Rattle.floor.specs.State.{stationAt, isGone, isBusy}
 use Rattle.floor.specs.Sound.{soundOf}
 use Rattle.floor.proofs.RefusalLaws.{positive}
