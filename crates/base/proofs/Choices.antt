@@ -1,4 +1,6 @@
 -- The laws of a choice: down one branch, down the other, and by cases.
+use Prim.Native.Nat.{ℕ, _<_}
+use native.Mathlib.Omega.{arith}
 use mathlib.Core.Bool.{Bool, true, false, false≢true}
 use mathlib.Core.Path.{_≡_, refl}
 use Rattle.base.specs.Choice.{if_then_else_}
@@ -29,3 +31,9 @@ pub first-false : (t x : Bool) → (if t then false else x) ≡ true → (t ≡ 
 unfolding if_then_else_
 first-false true x e = absurd (false≢true e)
 first-false false x e = (refl, e)
+
+-- a chain of refusals that came to 0: its first test failed
+pub passed : (t : Bool) (k x : ℕ) → (if t then k else x) ≡ 0 → 0 < k → (t ≡ false) × (x ≡ 0)
+unfolding if_then_else_
+passed true k x e h = absurd (omega arith)
+passed false k x e h = (refl, e)

@@ -1,2 +1,4 @@
 pub mod Choices
 pub mod Tests
+pub mod RecordLaws
+pub mod SizeLaws

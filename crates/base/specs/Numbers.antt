@@ -1,4 +1,5 @@
--- Document 01, "The floor": how many boxes and stations a floor may have, how many boxes make a quorum, and what a rank is.
+-- Document 01, "The floor": how many boxes and stations a floor may have, how many boxes make a quorum, and what a rank is; and
+-- the numbers that bytes spell.
 use Prim.Native.Nat.{ℕ, _+_, _*_, _/_}
 use mathlib.Core.Bool.{Bool, true, false}
 use lib.Dec.{ltb}
@@ -20,3 +21,10 @@ quorum n = n / 2 + 1
 -- "Rank = round × 16 + station number": the paper's rank, totally ordered and never shared by two stations.
 abbrev pub rankOf : ℕ → ℕ → ℕ
 rankOf round station = round * 16 + station
+
+-- big-endian numbers of 16 and of 32 bits
+abbrev pub word16 : ℕ → ℕ → ℕ
+word16 a b = a * 256 + b
+
+abbrev pub word32 : ℕ → ℕ → ℕ → ℕ → ℕ
+word32 a b c d = ((a * 256 + b) * 256 + c) * 256 + d

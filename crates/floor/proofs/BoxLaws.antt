@@ -3,9 +3,9 @@ use Prim.Native.Nat.{ℕ, _<_, _≤_, max}
 use native.Mathlib.Nat.{le-refl, le-max-left}
 use native.Mathlib.Decide.{decLe}
 use native.Mathlib.Omega.{arith}
-use mathlib.Core.Path.{_≡_, refl, sym, ap, _∙_}
+use mathlib.Core.Path.{_≡_, refl, sym, ap}
 use mathlib.Core.Logic.{_⊎_, inl, inr}
-use mathlib.Core.Bool.{Bool, true, false}
+use mathlib.Core.Bool.{true}
 use Rattle.base.proofs.Choices.{by-test}
 use Rattle.register.specs.Register.{rmwRead, rmwWrite, takes}
 use Rattle.register.specs.declared.Register.{Register}

@@ -1,29 +1,20 @@
 -- The record of a command decodes to it.
-use Prim.Native.Nat.{ℕ, _+_, _*_, _/_, _%_, _<_}
+use Prim.Native.Nat.{ℕ, _/_, _%_}
 use native.Mathlib.Omega.{arith}
-use native.Mathlib.Nat.{div-div-eq-div-mul, div-add-mod'}
-use mathlib.Core.Path.{_≡_, refl, sym, ap}
-use mathlib.Core.List.{List, [], _∷_}
-use mathlib.Core.Bool.{Bool, true, false}
+use mathlib.Core.Path.{_≡_, refl}
 use lib.ListN.{length}
 use Rattle.base.specs.Choice.{if_then_else_}
-use Rattle.base.proofs.Choices.{on-true}
-use Rattle.floor.specs.Commands.{word16, word32, allZero, between, requestOf, departureOf, commandOf, encodeOf}
+use Rattle.base.specs.Numbers.{word16, word32}
+use Rattle.floor.specs.Commands.{allZero, between, requestOf, departureOf, commandOf, encodeOf}
 use Rattle.floor.specs.declared.Command.{Command}
 use Rattle.floor.specs.declared.Command.the-variants.{Begin, ServeRead, ServeWrite, DeliverRead, DeliverWrite, Stop, Leave, Malformed}
 
 -- a number's bytes spell it
 spelt16 : (x : ℕ) → word16 (x / 256) (x % 256) ≡ x
-spelt16 x = div-add-mod' x 256
-
-spelt : (x a b c p q r : ℕ) → a * 256 + p ≡ x → b * 256 + q ≡ a → c * 256 + r ≡ b → word32 c r q p ≡ x
-spelt x a b c p q r e₁ e₂ e₃ = omega arith
+spelt16 x = omega arith
 
 spelt32 : (x : ℕ) → word32 (x / 16777216) (x / 65536 % 256) (x / 256 % 256) (x % 256) ≡ x
-spelt32 x =
-    let e₂ : x / 65536 * 256 + x / 256 % 256 ≡ x / 256 = rw (div-div-eq-div-mul x 256 256) at (div-add-mod' (x / 256) 256) in
-    let e₃ : x / 16777216 * 256 + x / 65536 % 256 ≡ x / 65536 = rw (div-div-eq-div-mul x 65536 256) at (div-add-mod' (x / 65536) 256) in
-    spelt x (x / 256) (x / 65536) (x / 16777216) (x % 256) (x / 256 % 256) (x / 65536 % 256) (div-add-mod' x 256) e₂ e₃
+spelt32 x = omega arith
 
 pub decode-encode : (c : Command) → commandOf (encodeOf c) ≡ c
 unfolding commandOf requestOf departureOf between allZero if_then_else_

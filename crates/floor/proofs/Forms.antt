@@ -2,7 +2,7 @@
 -- stores back what it found where a step changes nothing; on a sound floor both come to the floors here.
 use Prim.Native.Nat.{ℕ, _+_, _<_}
 use native.Mathlib.Omega.{arith}
-use mathlib.Core.Path.{_≡_, refl}
+use mathlib.Core.Path.{_≡_}
 use mathlib.Core.Bool.{true}
 use mathlib.Core.List.{List}
 use lib.ListN.{set}
@@ -11,7 +11,7 @@ use Rattle.register.specs.Register.{rmwRead, rmwWrite}
 use Rattle.register.specs.declared.StorageBox.{StorageBox}
 use Rattle.floor.specs.State.{box0, station0, row0, boxAt, stationAt, rowAt}
 use Rattle.floor.specs.Sound.{Sound}
-use Rattle.floor.specs.Rows.{newRow, issued, revisionOf}
+use Rattle.floor.specs.Rows.{newRow, issued}
 use Rattle.floor.specs.Effects.{withState, withRegister, rowServedRead, rowServedWrite, rowHeardRead, rowHeardWrite, begun, servedRead, servedWrite, receivedOnly, writeIssued, abortedBy, decidedBy, stoppedBox, goneStation}
 use Rattle.floor.specs.Commands.{placeIn}
 use Rattle.floor.specs.Step.{look, accepted}

@@ -1,25 +1,27 @@
 -- What every step keeps: a refused one the floor itself; each one soundness, the sizes, and the lengths of the arrays.
-use Prim.Native.Nat.{ℕ, zero, suc, _+_, _<_, _≤_}
+use Prim.Native.Nat.{ℕ, zero, suc, _<_}
 use native.Mathlib.Omega.{arith}
 use native.Mathlib.Nat.{ne-of-lt}
 use mathlib.Core.Path.{_≡_, refl, ap, subst, _∙_}
-use mathlib.Core.Bool.{Bool, true, false}
+use mathlib.Core.Bool.{true, false}
 use mathlib.Core.List.{List}
 use lib.ListN.{length, getD, set, length-set, getD-replicate}
-use lib.Seq.{getD-set-other}
+use lib.Seq.{getD-set-same, getD-set-other}
 use borrow.Author.Count.{below-more}
 use Rattle.base.specs.Numbers.{sizesRight}
 use Rattle.base.proofs.Choices.{by-test}
-use Rattle.floor.specs.State.{row0, unusedRow, rowAt}
-use Rattle.floor.specs.Sound.{Sound}
+use Rattle.register.specs.declared.StorageBox.{StorageBox}
+use Rattle.floor.specs.State.{box0, station0, row0, unusedRow, rowAt}
+use Rattle.floor.specs.Sound.{soundOf, Sound}
 use Rattle.floor.specs.Floors.{emptyFloor, newFloorOf}
-use Rattle.floor.specs.Rows.{readsWaiting, newRow, writesWaiting, revisionOf}
+use Rattle.floor.specs.Rows.{readsWaiting, newRow, writesWaiting}
 use Rattle.floor.specs.Rows as rows
 use Rattle.floor.specs.Commands.{commandOf}
 use Rattle.floor.specs.Refusals.{refusalIn}
 use Rattle.floor.specs.Effects.{begun, servedRead, servedWrite, deliveredRead, deliveredWrite, effectIn}
 use Rattle.floor.specs.Step.{isRefused, look, put, playOf, applyOf, stepOf}
 use Rattle.floor.specs.declared.WriteSlot.{WriteSlot}
+use Rattle.floor.specs.declared.Station.{Station}
 use Rattle.floor.specs.declared.Row.{Row}
 use Rattle.floor.specs.declared.Floor.{Floor}
 use Rattle.floor.specs.declared.Parts.{Parts}
@@ -28,33 +30,26 @@ use Rattle.floor.specs.declared.Stepped.{Stepped}
 use Rattle.floor.specs.declared.NewFloor.{NewFloor}
 use Rattle.floor.specs.declared.Command.{Command}
 use Rattle.floor.specs.declared.Command.the-variants.{Begin, ServeRead, ServeWrite, DeliverRead, DeliverWrite, Stop, Leave, Malformed}
-use Rattle.floor.proofs.SoundLaws.{Sizes, sizes-mean}
+use Rattle.base.proofs.SizeLaws.{Sizes, sizes-mean}
+use Rattle.floor.proofs.SoundLaws.{sound-means}
 use Rattle.floor.proofs.Standings.{clash}
-use Rattle.floor.proofs.Stores.{set-all, set-in, set-at}
+use Rattle.floor.proofs.Stores.{set-all, set-at}
 use Rattle.floor.proofs.Forms.{afterBegin}
 use Rattle.floor.proofs.StepLaws.{apply-accepted}
-use Rattle.floor.proofs.View.{StepView, turned, began, read-served, write-served, read-heard, issued, write-heard, decided, aborted, stopped, left, apply-view}
+use Rattle.floor.proofs.View.{StepView, turned, began, read-served, write-served, read-heard, issued, write-heard, decided, aborted, stopped, left, apply-view, apply-refusal}
 
 -- "Floor, record and reply stay unchanged": a refused step hands back the very floor
-same : {f : Floor} {c : Command} {s : Stepped} → StepView f c s → isRefused (s .outcome) ≡ true → s .floor ≡ f
-same (turned k t) e = refl
-same (began z d) e = clash e refl
-same (read-served z d) e = clash e refl
-same (write-served z d) e = clash e refl
-same (read-heard z d q) e = clash e refl
-same (issued z d r q) e = clash e refl
-same (write-heard z d q) e = clash e refl
-same (decided z d r q t) e = clash e refl
-same (aborted z d r q t) e = clash e refl
-same (stopped z d) e = clash e refl
-same (left z d) e = clash e refl
-
 pub refused-same : (f : Floor) (c : Command) → isRefused (applyOf f c .outcome) ≡ true → applyOf f c .floor ≡ f
-refused-same f c = same (apply-view f c)
+refused-same f c e = ap (λ (s : Stepped). s .floor) (apply-refusal f c e .is)
 
 pub step-refused-same : (f : Floor) (r : List ℕ) → isRefused (stepOf f r .outcome) ≡ true → stepOf f r .floor ≡ f
 unfolding stepOf
 step-refused-same f r = refused-same f (commandOf r)
+
+-- a step is accepted on a sound floor only
+pub accepted-sound : (f : Floor) (c : Command) → isRefused (applyOf f c .outcome) ≡ false → Sound f
+unfolding applyOf
+accepted-sound f c = by-test (λ (s : Stepped). isRefused (s .outcome) ≡ false → Sound f) (soundOf f) _ _ (λ e _. sound-means f e) (λ _ e. clash refl e)
 
 -- the numbers of boxes and stations never change
 pub record SameSizes (f g : Floor) : Type 0 where
@@ -229,3 +224,20 @@ new-sound n m =
 pub new-lengths : (n m : ℕ) → Lengths (newFloorOf n m .floor)
 unfolding newFloorOf
 new-lengths n m = by-test (λ (x : NewFloor). Lengths (x .floor)) (sizesRight n m) _ _ (λ _. empty-lengths n m) (λ _. empty-lengths 1 1)
+
+-- what is stored is read back
+module _ (f : Floor) (y : Lengths f) (z : Sound f) where
+  pub row-stored : (a : ℕ) (w : Row) → a < 64 → getD (set (f .rows) a w) a row0 ≡ w
+  row-stored a w h = getD-set-same (f .rows) a w row0 (omega (arith, y .rows))
+
+  pub station-stored : (s : ℕ) (x : Station) → s < f .m → getD (set (f .stations) s x) s station0 ≡ x
+  station-stored s x h = getD-set-same (f .stations) s x station0 (omega (arith, y .stations, z .station-most))
+
+  pub owner-stored : (a : ℕ) (x : Station) → a < f .used → getD (set (f .stations) (rowAt f a .station) x) (rowAt f a .station) station0 ≡ x
+  owner-stored a x h = station-stored (rowAt f a .station) x (z .stations a h)
+
+  pub box-stored : (b : ℕ) (x : StorageBox) → b < f .n → getD (set (f .boxes) b x) b box0 ≡ x
+  box-stored b x h = getD-set-same (f .boxes) b x box0 (omega (arith, y .boxes, z .box-most))
+
+  pub used-stored : (a : ℕ) (w : Row) → a < f .used → getD (set (f .rows) a w) a row0 ≡ w
+  used-stored a w h = row-stored a w (omega (arith, z .rows-most))

@@ -7,18 +7,12 @@ use mathlib.Core.Bool.{Bool, true, false}
 use lib.Dec.{eqb}
 use borrow.Author.Tests.{leb-false, lt-leb, eqb-false, ne-eqb}
 use Rattle.base.specs.Choice.{if_then_else_}
-use Rattle.base.proofs.Choices.{on-true, on-false, by-test}
+use Rattle.base.proofs.Choices.{on-true, on-false, by-test, passed}
 use Rattle.floor.specs.State.{standingOf, isWaiting, isOnTheWay, isGone, isBusy}
 use Rattle.floor.specs.Refusals.{beginRefusal, serveRefusal, deliverRefusal, stopRefusal, leaveRefusal, refusalIn}
 use Rattle.floor.specs.declared.Parts.{Parts}
 use Rattle.floor.specs.declared.Command.{Command}
 use Rattle.floor.specs.declared.Command.the-variants.{Begin, ServeRead, ServeWrite, DeliverRead, DeliverWrite, Stop, Leave, Malformed}
-
--- a chain of refusals that came to 0: its first test failed
-passed : (t : Bool) (k x : ℕ) → (if t then k else x) ≡ 0 → 0 < k → (t ≡ false) × (x ≡ 0)
-unfolding if_then_else_
-passed true k x e h = absurd (omega arith)
-passed false k x e h = (refl, e)
 
 -- the last test, which has to hold
 met : (t : Bool) (k : ℕ) → (if t then 0 else k) ≡ 0 → 0 < k → t ≡ true

@@ -4,11 +4,9 @@ use native.Mathlib.Omega.{arith}
 use mathlib.Core.Path.{_≡_, refl, sym, ap, _∙_}
 use mathlib.Core.Logic.{_⊎_, inl, inr}
 use mathlib.Core.Bool.{true, false}
-use lib.Seq.{getD-set-same}
 use Rattle.protocol.specs.Mask.{countBelow}
 use Rattle.protocol.proofs.MaskLaws.{count-more}
-use Rattle.floor.specs.State.{row0, rowAt, readAt, writeAt}
-use Rattle.floor.specs.Sound.{Sound}
+use Rattle.floor.specs.State.{rowAt, readAt, writeAt}
 use Rattle.floor.specs.Commands.{attemptIn}
 use Rattle.floor.specs.Rows as rows
 use Rattle.floor.specs.Step.{isRefused, applyOf}
@@ -20,10 +18,10 @@ use Rattle.floor.specs.declared.Outcome.the-variants.{Begun, Served, Rec
 use Rattle.floor.specs.declared.Command.{Command}
 use Rattle.floor.specs.declared.Command.the-variants.{DeliverRead, DeliverWrite}
 use Rattle.floor.proofs.Standings.{clash, arrives-means}
-use Rattle.floor.proofs.Forms.{withRow, readHeard, writeHeard}
+use Rattle.floor.proofs.Forms.{readHeard, writeHeard}
 use Rattle.floor.proofs.View.{CanDeliver, StepView, turned, began, read-served, write-served, read-heard, issued, write-heard, decided, aborted, stopped, left, apply-view}
 use Rattle.floor.proofs.Moves.{RowMove, row-kept, row-begins, row-read, row-written, row-read-heard, row-issues, row-write-heard, apply-row}
-use Rattle.floor.proofs.Keeps.{Lengths}
+use Rattle.floor.proofs.Keeps.{Lengths, used-stored}
 
 -- how many rows a thing said puts into use
 abbrev pub begins : Outcome → ℕ
@@ -69,6 +67,10 @@ apply-used f c = used-rises (apply-view f c)
 
 pub apply-begun : (f : Floor) (c : Command) (a : ℕ) → applyOf f c .outcome ≡ Begun a → a ≡ f .used
 apply-begun f c a = begun-next a (apply-view f c)
+
+-- a row in use stays in use
+pub used-stays : (f : Floor) (c : Command) (a : ℕ) → a < f .used → a < applyOf f c .floor .used
+used-stays f c a h = omega (arith, apply-used f c)
 
 -- what an attempt keeps for good
 pub record SameAttempt (w x : Row) : Type 0 where
@@ -151,22 +153,19 @@ module _ (f : Floor) (a b : ℕ) where
 
   -- the row a after a delivery that is accepted: the answer is received
   module _ (y : Lengths f) where
-    stored : Sound f → a < f .used → (w : Row) → rowAt (withRow f a w) a ≡ w
-    stored z h w = getD-set-same (f .rows) a w row0 (omega (arith, y .rows, z .rows-most))
-
     readers-after : {s : Stepped} → StepView f (DeliverRead a b) s → isRefused (s .outcome) ≡ false
         → CanDeliver f false a b × (rowAt (s .floor) a .readers ≡ readHeard f a b .readers)
     unfolding rows.issued
     readers-after (turned k t) e = clash refl e
-    readers-after (read-heard z d q) e = (d, ap (λ (w : Row). w .readers) (stored z (d .used) _))
-    readers-after (issued z d r q) e = (d, ap (λ (w : Row). w .readers) (stored z (d .used) _))
+    readers-after (read-heard z d q) e = (d, ap (λ (w : Row). w .readers) (used-stored f y z a _ (d .used)))
+    readers-after (issued z d r q) e = (d, ap (λ (w : Row). w .readers) (used-stored f y z a _ (d .used)))
 
     writers-after : {s : Stepped} → StepView f (DeliverWrite a b) s → isRefused (s .outcome) ≡ false
         → CanDeliver f true a b × (rowAt (s .floor) a .writers ≡ writeHeard f a b .writers)
     writers-after (turned k t) e = clash refl e
-    writers-after (write-heard z d q) e = (d, ap (λ (w : Row). w .writers) (stored z (d .used) _))
-    writers-after (decided z d r q t) e = (d, ap (λ (w : Row). w .writers) (stored z (d .used) _))
-    writers-after (aborted z d r q t) e = (d, ap (λ (w : Row). w .writers) (stored z (d .used) _))
+    writers-after (write-heard z d q) e = (d, ap (λ (w : Row). w .writers) (used-stored f y z a _ (d .used)))
+    writers-after (decided z d r q t) e = (d, ap (λ (w : Row). w .writers) (used-stored f y z a _ (d .used)))
+    writers-after (aborted z d r q t) e = (d, ap (λ (w : Row). w .writers) (used-stored f y z a _ (d .used)))
 
     -- each accepted delivery makes the answers received from boxes below n one more
     pub apply-read-counted : isRefused (applyOf f (DeliverRead a b) .outcome) ≡ false

@@ -1,5 +1,5 @@
 -- The loop of `run`: one record more, by the way that its step takes.
-use Prim.Native.Nat.{ℕ, suc, _+_, _-_, _/_, _<_, _≤_}
+use Prim.Native.Nat.{ℕ, suc, _+_, _-_, _*_, _/_, _<_, _≤_}
 use native.Mathlib.Omega.{arith}
 use native.Mathlib.Numerals.{add-one}
 use mathlib.Core.Path.{_≡_, refl, sym, ap, subst, _∙_}
@@ -7,53 +7,28 @@ use mathlib.Core.List.{List}
 use mathlib.Core.Bool.{Bool, true, false}
 use lib.ListN.{length, getD, set}
 use lib.Seq.{take-all}
-use borrow.Author.Tests.{eq-eqb, ne-eqb}
 use Rattle.base.specs.Choice.{if_then_else_}
 use Rattle.base.proofs.Choices.{on-true, on-false, by-test}
 use Rattle.floor.specs.State.{row0, box0, station0}
 use Rattle.floor.specs.Sound.{soundOf, Sound}
 use Rattle.floor.specs.Commands.{commandOf, attemptIn, boxIn, stationIn, placeIn}
 use Rattle.floor.specs.Refusals.{refusalIn}
-use Rattle.floor.specs.Effects.{begun, servedRead, servedWrite, deliveredRead, deliveredWrite, effectIn}
-use Rattle.floor.specs.Step.{isRefused, rowPlace, boxPlace, stationPlace, look, put, refused, accepted, playOf, applyOf, stepOf}
-use Rattle.floor.specs.Runs.{recordAt, recordsFrom, runFrom}
-use Rattle.floor.proofs.SoundLaws.{sound-holds}
-use Rattle.floor.proofs.Keeps.{apply-keeps, refused-same}
+use Rattle.floor.specs.Effects.{effectIn}
+use Rattle.floor.specs.Step.{isRefused, rowPlace, boxPlace, stationPlace, look, put, refused, accepted, applyOf, stepOf}
+use Rattle.base.specs.Records.{recordAt, recordsFrom}
+use Rattle.base.proofs.RecordLaws.{record-whole}
+use Rattle.floor.specs.Runs.{runFrom}
+use Rattle.floor.proofs.Forms.{partsAt}
+use Rattle.floor.proofs.StepLaws.{apply-refused, apply-accepted}
+use Rattle.floor.proofs.Keeps.{apply-keeps, refused-same, effect-said}
 use Rattle.floor.specs.declared.Floor.{Floor}
 use Rattle.floor.specs.declared.Parts.{Parts}
 use Rattle.floor.specs.declared.Changed.{Changed}
 use Rattle.floor.specs.declared.Command.{Command}
-use Rattle.floor.specs.declared.Command.the-variants.{Begin, ServeRead, ServeWrite, DeliverRead, DeliverWrite, Stop, Leave, Malformed}
 use Rattle.floor.specs.declared.Stepped.{Stepped}
 use Rattle.floor.specs.declared.Ran.{Ran}
 use Rattle.floor.specs.declared.Outcome.{Outcome}
 use Rattle.floor.specs.declared.Outcome.the-variants.{Refused}
-
--- an accepted step says no refusal
-pub effect-accepted : (p : Parts) (c : Command) → refusalIn p c ≡ 0 → isRefused (effectIn p c .outcome) ≡ false
-unfolding begun servedRead servedWrite deliveredRead deliveredWrite
-effect-accepted p (Begin s round v) e = refl
-effect-accepted p (ServeRead a b) e = refl
-effect-accepted p (ServeWrite a b) e = refl
-effect-accepted p (DeliverRead a b) e =
-    by-test (λ (y : Changed). isRefused (y .outcome) ≡ false) _ _ _
-    (λ _. by-test (λ (y : Changed). isRefused (y .outcome) ≡ false) _ _ _ (λ _. refl) (λ _. refl)) (λ _. refl)
-effect-accepted p (DeliverWrite a b) e =
-    by-test (λ (y : Changed). isRefused (y .outcome) ≡ false) _ _ _
-    (λ _. by-test (λ (y : Changed). isRefused (y .outcome) ≡ false) _ _ _
-    (λ _. by-test (λ (y : Changed). isRefused (y .outcome) ≡ false) _ _ _ (λ _. refl) (λ _. refl)) (λ _. refl)) (λ _. refl)
-effect-accepted p (Stop b) e = refl
-effect-accepted p (Leave s) e = refl
-effect-accepted p Malformed e = absurd (omega arith)
-
-module _ (f : Floor) (s : Sound f) (c : Command) where
-  pub apply-accepted : refusalIn (look f c) c ≡ 0 → applyOf f c ≡ accepted f c (effectIn (look f c) c)
-  unfolding applyOf playOf
-  apply-accepted e = sym (on-true _ (sound-holds f s) (on-true _ (eq-eqb _ _ e) refl))
-
-  pub apply-refused : (refusalIn (look f c) c ≡ 0 → ⊥) → applyOf f c ≡ refused f (refusalIn (look f c) c)
-  unfolding applyOf playOf
-  apply-refused e = sym (on-true _ (sound-holds f s) (on-false _ (ne-eqb _ _ e) refl))
 
 -- the rest of a run that starts with a record, by what that record's step says
 module _ (k n : ℕ) (o : Outcome) (f : Floor) (l : List ℕ) (at : ℕ) (x : Stepped) (e : stepOf f (recordAt l at) ≡ x) where
@@ -84,16 +59,14 @@ run-ends f l count k at o h =
     let e : count - k ≡ 0 = omega arith in
     subst (λ (m : ℕ). record { floor = f; accepted = k; last = o } ≡ runFrom k o f (recordsFrom m l at)) (sym e) refl
 
--- what the loop reads out of the floor at the places i, b and j, and the floor once it has stored there
-abbrev pub partsAt : Floor → ℕ → ℕ → ℕ → Parts
-partsAt f i b j = record { n = f .n; m = f .m; used = f .used; row = getD (f .rows) i row0; storage = getD (f .boxes) b box0; station = getD (f .stations) j station0 }
-
+-- the floor once the loop has stored parts at the places i, b and j
 abbrev pub storedAt : Floor → ℕ → ℕ → ℕ → Parts → Floor
 storedAt f i b j p = record { n = f .n; m = f .m; used = p .used; boxes = set (f .boxes) b (p .storage); stations = set (f .stations) j (p .station); rows = set (f .rows) i (p .row) }
 
--- one turn of the loop
-module _ (l : List ℕ) (count k at : ℕ) (h : k < count) (o : Outcome) (f : Floor) (s : Sound f) (c : Command) (ec : c ≡ commandOf (recordAt l at)) (a b₀ t i b j : ℕ)
-    (ea : a ≡ attemptIn (f .used) c) (ei : i ≡ placeIn 64 a) (eb₀ : b₀ ≡ boxIn c) (eb : b ≡ placeIn 9 b₀) (et : t ≡ stationIn (getD (f .rows) i row0 .station) c) (ej : j ≡ placeIn 16 t) where
+-- one turn of the loop: the record k, its command c, the places i, b and j that it names, and the parts p read there
+module _ (l : List ℕ) (count k : ℕ) (h : k < count) (o : Outcome) (f : Floor) (s : Sound f) (c : Command) (ec : c ≡ commandOf (recordAt l (8 * k))) (a b₀ t i b j : ℕ)
+    (ea : a ≡ attemptIn (f .used) c) (ei : i ≡ placeIn 64 a) (eb₀ : b₀ ≡ boxIn c) (eb : b ≡ placeIn 9 b₀) (et : t ≡ stationIn (getD (f .rows) i row0 .station) c) (ej : j ≡ placeIn 16 t)
+    (p : Parts) (ep : p ≡ partsAt f i b j) where
   row-named : i ≡ rowPlace f c
   row-named = ei ∙ ap (placeIn 64) ea
 
@@ -103,48 +76,52 @@ module _ (l : List ℕ) (count k at : ℕ) (h : k < count) (o : Outcome) (f : Fl
   station-named : j ≡ stationPlace f c
   station-named = ej ∙ ap (placeIn 16) (et ∙ ap (λ (x : ℕ). stationIn (getD (f .rows) x row0 .station) c) row-named)
 
-  looked : partsAt f i b j ≡ look f c
+  looked : p ≡ look f c
   looked =
-      ap (λ (x : ℕ). partsAt f x b j) row-named ∙ ap (λ (x : ℕ). partsAt f (rowPlace f c) x j) box-named
+      ep ∙ ap (λ (x : ℕ). partsAt f x b j) row-named ∙ ap (λ (x : ℕ). partsAt f (rowPlace f c) x j) box-named
       ∙ ap (λ (x : ℕ). partsAt f (rowPlace f c) (boxPlace c) x) station-named
 
-  stored : (p : Parts) → storedAt f i b j p ≡ put f c p
-  stored p =
-      ap (λ (x : ℕ). storedAt f x b j p) row-named ∙ ap (λ (x : ℕ). storedAt f (rowPlace f c) x j p) box-named
-      ∙ ap (λ (x : ℕ). storedAt f (rowPlace f c) (boxPlace c) x p) station-named
+  stored : (q : Parts) → storedAt f i b j q ≡ put f c q
+  stored q =
+      ap (λ (x : ℕ). storedAt f x b j q) row-named ∙ ap (λ (x : ℕ). storedAt f (rowPlace f c) x j q) box-named
+      ∙ ap (λ (x : ℕ). storedAt f (rowPlace f c) (boxPlace c) x q) station-named
 
   left : count - k ≡ suc (count - (k + 1))
   left = omega arith
 
-  pub turn-refused : (e : ℕ) → e ≡ refusalIn (partsAt f i b j) c → (e ≡ 0 → ⊥) → record { floor = f; accepted = k; last = Refused e } ≡ runFrom k o f (recordsFrom (count - k) l at)
+  pub turn-boxes : p .n ≤ 9
+  turn-boxes = subst (λ (q : Parts). q .n ≤ 9) (sym ep) (s .box-most)
+
+  pub turn-refused : (e : ℕ) → e ≡ refusalIn p c → (e ≡ 0 → ⊥) → record { floor = f; accepted = k; last = Refused e } ≡ runFrom k o f (recordsFrom (count - k) l (8 * k))
   unfolding stepOf
   turn-refused e r z =
-      let r′ : e ≡ refusalIn (look f c) c = r ∙ ap (λ (p : Parts). refusalIn p c) looked in
+      let r′ : e ≡ refusalIn (look f c) c = r ∙ ap (λ (q : Parts). refusalIn q c) looked in
       rw left
-      (run-stops (count - (k + 1)) k o f l at (refused f e)
-      (ap (applyOf f) (sym ec) ∙ apply-refused f s c (λ q. z (r′ ∙ q)) ∙ ap (refused f) (sym r′)) refl)
+      (run-stops (count - (k + 1)) k o f l (8 * k) (refused f e)
+      (ap (applyOf f) (sym ec) ∙ apply-refused f c s (λ q. z (r′ ∙ q)) ∙ ap (refused f) (sym r′)) refl)
 
-  module _ (e : ℕ) (r : e ≡ refusalIn (partsAt f i b j) c) (z : e ≡ 0) (y : Changed) (ey : y ≡ effectIn (partsAt f i b j) c) where
+  module _ (e : ℕ) (r : e ≡ refusalIn p c) (z : e ≡ 0) (y : Changed) (ey : y ≡ effectIn p c) where
     none : refusalIn (look f c) c ≡ 0
-    none = sym (r ∙ ap (λ (p : Parts). refusalIn p c) looked) ∙ z
+    none = sym (r ∙ ap (λ (q : Parts). refusalIn q c) looked) ∙ z
 
     y-is : y ≡ effectIn (look f c) c
-    y-is = ey ∙ ap (λ (p : Parts). effectIn p c) looked
+    y-is = ey ∙ ap (λ (q : Parts). effectIn q c) looked
 
     applied : applyOf f c ≡ record { floor = storedAt f i b j (y .parts); outcome = y .outcome }
     applied =
-        apply-accepted f s c none ∙ ap (accepted f c) (sym y-is)
+        apply-accepted f c s none ∙ ap (accepted f c) (sym y-is)
         ∙ ap (λ (g : Floor). record { floor = g; outcome = y .outcome }) (sym (stored (y .parts)))
 
     pub turn-sound : Sound (storedAt f i b j (y .parts))
     turn-sound = subst (λ (x : Stepped). Sound (x .floor)) applied (apply-keeps f c s)
 
-    pub turn-on : runFrom (k + 1) (y .outcome) (storedAt f i b j (y .parts)) (recordsFrom (count - (k + 1)) l (at + 8)) ≡ runFrom k o f (recordsFrom (count - k) l at)
+    pub turn-on : runFrom (k + 1) (y .outcome) (storedAt f i b j (y .parts)) (recordsFrom (count - (k + 1)) l (8 * (k + 1))) ≡ runFrom k o f (recordsFrom (count - k) l (8 * k))
     unfolding stepOf
     turn-on =
-        rw left
-        (run-goes-on (count - (k + 1)) k o f l at (record { floor = storedAt f i b j (y .parts); outcome = y .outcome })
-        (ap (applyOf f) (sym ec) ∙ applied) (ap (λ (x : Changed). isRefused (x .outcome)) y-is ∙ effect-accepted (look f c) c none))
+        let next : 8 * (k + 1) ≡ 8 * k + 8 = omega arith in
+        rw (left, next)
+        (run-goes-on (count - (k + 1)) k o f l (8 * k) (record { floor = storedAt f i b j (y .parts); outcome = y .outcome })
+        (ap (applyOf f) (sym ec) ∙ applied) (ap (λ (x : Changed). isRefused (x .outcome)) y-is ∙ effect-said (look f c) c none))
 
 -- a run of one record is its step
 abbrev oneStep : Floor → List ℕ → Ran
@@ -156,9 +133,8 @@ one-step : (f : Floor) (l : List ℕ) → runFrom 0 (Refused 0) f (recordsFrom 1
 unfolding runFrom recordsFrom
 one-step f l = refl
 
-record-whole : (l : List ℕ) → length l ≡ 8 → recordAt l 0 ≡ l
-unfolding recordAt
-record-whole l h = take-all 8 l (omega arith)
+record-all : (l : List ℕ) → length l ≡ 8 → recordAt l 0 ≡ l
+record-all l h = record-whole l 0 (omega arith) ∙ take-all 8 l (omega arith)
 
 step-refused : (f : Floor) (l : List ℕ) → isRefused (stepOf f l .outcome) ≡ true → f ≡ stepOf f l .floor
 unfolding stepOf
@@ -175,4 +151,4 @@ one-says f l =
 pub run-one : (f : Floor) (l : List ℕ) (x : Ran) → length l ≡ 8 → x ≡ runFrom 0 (Refused 0) f (recordsFrom (length l / 8) l 0) → asStep x ≡ stepOf f l
 run-one f l x h e =
     let one : length l / 8 ≡ 1 = omega arith in
-    ap asStep (e ∙ ap (λ (k : ℕ). runFrom 0 (Refused 0) f (recordsFrom k l 0)) one ∙ one-step f l ∙ ap (oneStep f) (record-whole l h)) ∙ one-says f l
+    ap asStep (e ∙ ap (λ (k : ℕ). runFrom 0 (Refused 0) f (recordsFrom k l 0)) one ∙ one-step f l ∙ ap (oneStep f) (record-all l h)) ∙ one-says f l

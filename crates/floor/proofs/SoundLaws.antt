@@ -4,41 +4,19 @@ use native.Mathlib.Omega.{arith}
 use native.Mathlib.Nat.{le-refl}
 use native.Mathlib.Numerals.{add-one}
 use mathlib.Core.Path.{_≡_, refl, sym}
-use mathlib.Core.Bool.{true, false}
+use mathlib.Core.Bool.{true}
 use mathlib.Core.List.{List}
 use lib.Dec.{ltb}
 use lib.ListN.{getD}
 use borrow.Author.Count.{below-more}
 use borrow.Author.Tests.{ltb-true, ltb-false, lt-ltb, le-ltb}
-use Rattle.base.specs.Numbers.{sizesRight}
+use Rattle.base.proofs.SizeLaws.{Sizes, sizes-mean, sizes-hold}
 use Rattle.base.proofs.Choices.{on-true, on-false, by-test, both-true, first-false}
 use Rattle.floor.specs.State.{row0}
 use Rattle.floor.specs.Sound.{stationsBelow, soundOf, Sound}
 use Rattle.floor.specs.Commands.{placeIn}
 use Rattle.floor.specs.declared.Row.{Row}
 use Rattle.floor.specs.declared.Floor.{Floor}
-
--- refusal 3 does not apply
-pub record Sizes (n m : ℕ) : Type 0 where
-  pub box-least : 1 ≤ n
-  pub box-most : n ≤ 9
-  pub station-least : 1 ≤ m
-  pub station-most : m ≤ 16
-
-pub sizes-mean : (n m : ℕ) → sizesRight n m ≡ true → Sizes n m
-unfolding sizesRight
-sizes-mean n m e =
-    let p = first-false _ _ e in
-    let q = first-false _ _ (p .1) in
-    let r = first-false _ _ (q .1) in
-    let t = first-false _ _ (r .1) in
-    record { box-least = ltb-false _ _ (p .0); box-most = ltb-false _ _ (q .0); station-least = ltb-false _ _ (r .0); station-most = ltb-false _ _ (t .0) }
-
-pub sizes-hold : (n m : ℕ) → Sizes n m → sizesRight n m ≡ true
-unfolding sizesRight
-sizes-hold n m z =
-    sym (on-false _ (le-ltb _ _ (z .box-least)) (on-false _ (le-ltb _ _ (z .box-most))
-    (on-false _ (le-ltb _ _ (z .station-least)) (on-false _ (le-ltb _ _ (z .station-most)) refl))))
 
 -- each of the first k rows has a station below m
 pub below-all : (rows : List Row) (m k : ℕ) → stationsBelow rows m k ≡ true → (a : ℕ) → a < k → getD rows a row0 .station < m

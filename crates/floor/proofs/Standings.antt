@@ -1,11 +1,11 @@
 -- What the tests of a request's standing and of a station's state say.
 use Prim.Native.Nat.{ℕ}
-use mathlib.Core.Path.{_≡_, refl, sym, ap, subst, _∙_}
+use mathlib.Core.Path.{_≡_, refl, sym, ap, _∙_}
 use mathlib.Core.Bool.{Bool, true, false, false≢true}
 use borrow.Author.Tests.{eqb-true, eq-eqb}
-use Rattle.base.proofs.Choices.{on-true, on-false, by-test}
+use Rattle.base.proofs.Choices.{on-false, by-test}
 use Rattle.protocol.specs.Mask.{bit}
-use Rattle.floor.specs.State.{Standing, notIssued, waiting, onTheWay, received, notReceived, standing, isWaiting, isOnTheWay, isGone, isBusy, isReading, isWriting}
+use Rattle.floor.specs.State.{Standing, received, notReceived, standing, isWaiting, isOnTheWay, isGone, isBusy, isReading, isWriting}
 use Rattle.floor.specs.declared.Phase.{Phase}
 use Rattle.floor.specs.declared.Phase.the-variants.{Idle, Reading, Writing, Decided, Gone}
 use Rattle.floor.specs.declared.Stage.{Stage}

@@ -1,5 +1,5 @@
 -- What a step can be: turned back, or one of ten, each with the tests that it passed. A law of steps is then a function by cases.
-use Prim.Native.Nat.{ℕ, _<_, _≤_}
+use Prim.Native.Nat.{ℕ, _≤_}
 use native.Mathlib.Omega.{arith}
 use mathlib.Core.Path.{_≡_, refl, subst}
 use mathlib.Core.Logic.{_⊎_, inl, inr}
@@ -14,8 +14,7 @@ use Rattle.floor.specs.Commands.{commandOf, placeIn}
 use Rattle.floor.specs.Rows.{revisionOf, allTaken}
 use Rattle.floor.specs.Refusals.{refusalIn}
 use Rattle.floor.specs.Effects.{rowHeardRead, rowHeardWrite, deliveredRead, deliveredWrite, effectIn}
-use Rattle.floor.specs.Step.{look, refused, accepted, playOf, applyOf, stepOf}
-use Rattle.floor.specs.declared.Row.{Row}
+use Rattle.floor.specs.Step.{isRefused, look, refused, accepted, playOf, applyOf, stepOf}
 use Rattle.floor.specs.declared.Floor.{Floor}
 use Rattle.floor.specs.declared.Changed.{Changed}
 use Rattle.floor.specs.declared.Stepped.{Stepped}
@@ -23,6 +22,7 @@ use Rattle.floor.specs.declared.Outcome.the-variants as said
 use Rattle.floor.specs.declared.Command.{Command}
 use Rattle.floor.specs.declared.Command.the-variants.{Begin, ServeRead, ServeWrite, DeliverRead, DeliverWrite, Stop, Leave, Malformed}
 use Rattle.floor.proofs.SoundLaws.{sound-means}
+use Rattle.floor.proofs.Standings.{clash}
 use Rattle.floor.proofs.RefusalLaws.{MayBegin, MayServe, MayDeliver, MayStop, MayLeave, begin-means, serve-means, deliver-means, stop-means, leave-means, refusal-numbered}
 use Rattle.floor.proofs.Forms.{partsAt, ownerAt, readHeard, writeHeard, withRow, stepped, afterBegin, afterServeRead, afterServeWrite, afterIssue, afterDecision, afterAbort, afterStop, afterLeave, at-row, at-owner, begin-look, begin-form, request-look, serve-read-form, serve-write-form, received-form, issue-form, decision-form, abort-form, stop-look, stop-form, leave-look, leave-form}
 
@@ -159,6 +159,28 @@ apply-view f c =
   where
     P : Stepped → Type 0
     P = StepView f c
+
+-- a step that says refused was turned back
+pub record Refusal (f : Floor) (c : Command) (s : Stepped) : Type 0 where
+  pub number : ℕ
+  pub cause : TurnedBack f c number
+  pub is : s ≡ refused f number
+
+refusal : {f : Floor} {c : Command} {s : Stepped} → StepView f c s → isRefused (s .outcome) ≡ true → Refusal f c s
+refusal (turned k t) e = record { number = k; cause = t; is = refl }
+refusal (began z d) e = clash e refl
+refusal (read-served z d) e = clash e refl
+refusal (write-served z d) e = clash e refl
+refusal (read-heard z d q) e = clash e refl
+refusal (issued z d r q) e = clash e refl
+refusal (write-heard z d q) e = clash e refl
+refusal (decided z d r q t) e = clash e refl
+refusal (aborted z d r q t) e = clash e refl
+refusal (stopped z d) e = clash e refl
+refusal (left z d) e = clash e refl
+
+pub apply-refusal : (f : Floor) (c : Command) → isRefused (applyOf f c .outcome) ≡ true → Refusal f c (applyOf f c)
+apply-refusal f c = refusal (apply-view f c)
 
 pub step-view : (f : Floor) (r : List ℕ) → StepView f (commandOf r) (stepOf f r)
 unfolding stepOf

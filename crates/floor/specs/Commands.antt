@@ -1,19 +1,13 @@
 -- Document 01, "The drill file": the 8-byte record of a step, and the places of the floor that a step names.
-use Prim.Native.Nat.{ℕ, _+_, _*_, _/_, _%_}
+use Prim.Native.Nat.{ℕ, _/_, _%_}
 use mathlib.Core.List.{List, [], _∷_}
 use mathlib.Core.Bool.{Bool, true, false}
 use lib.ListN.{getD, drop, replicate}
 use lib.Dec.{eqb, leb, ltb}
 use Rattle.base.specs.Choice.{if_then_else_}
+use Rattle.base.specs.Numbers.{word16, word32}
 use Rattle.floor.specs.declared.Command.{Command}
 use Rattle.floor.specs.declared.Command.the-variants.{Begin, ServeRead, ServeWrite, DeliverRead, DeliverWrite, Stop, Leave, Malformed}
-
--- big-endian numbers
-abbrev pub word16 : ℕ → ℕ → ℕ
-word16 a b = a * 256 + b
-
-abbrev pub word32 : ℕ → ℕ → ℕ → ℕ → ℕ
-word32 a b c d = ((a * 256 + b) * 256 + c) * 256 + d
 
 -- the bytes that should be zero are
 unfoldable pub allZero : List ℕ → Bool

@@ -2,21 +2,9 @@
 ghost use mathlib.Core.Path.{_≡_};
 ghost use lib.ListN.{length, drop};
 ghost use Prim.Native.Nat.{_+_, _<_, _≤_};
-ghost use Rattle.floor.specs.Commands.{word16, word32, allZero, requestOf, departureOf, commandOf, encodeOf, placeIn, attemptIn, boxIn, stationIn};
-ghost use Rattle.floor.specs.Runs.{recordAt};
+ghost use Rattle.floor.specs.Commands.{allZero, requestOf, departureOf, commandOf, encodeOf, placeIn, attemptIn, boxIn, stationIn};
+ghost use Rattle.base.specs.Records.{recordAt};
 use crate::Command;
-
-fn be16(a: u8, b: u8) -> u16
-    ensures { λ r. ⌜ r ≡ word16 a b ⌝ }
-{
-    a as u16 * 256 + b as u16
-}
-
-fn be32(a: u8, b: u8, c: u8, d: u8) -> u32
-    ensures { λ r. ⌜ r ≡ word32 a b c d ⌝ }
-{
-    ((a as u32 * 256 + b as u32) * 256 + c as u32) * 256 + d as u32
-}
 
 // The bytes from a place on are zero.
 fn zeros(r: [u8; 8], from: usize) -> bool
@@ -58,7 +46,11 @@ pub fn decode(r: [u8; 8]) -> Command
 {
     let kind = r[0];
     match kind {
-        1 => Command::Begin(r[1], be16(r[2], r[3]), be32(r[4], r[5], r[6], r[7])),
+        1 => Command::Begin(
+            r[1],
+            base::be16(r[2], r[3]),
+            base::be32(r[4], r[5], r[6], r[7]),
+        ),
         2..=5 => {
             if zeros(r, 3) {
                 request(kind, r[1], r[2])
@@ -82,7 +74,16 @@ pub fn command_at(s: &[u8], at: usize) -> Command
     requires { ⌜ at + 8 ≤ length (now s) ⌝ }
     ensures { λ c. ⌜ c ≡ commandOf (recordAt (now (s .entry)) at) ⌝ }
 {
-    decode([s[at], s[at + 1], s[at + 2], s[at + 3], s[at + 4], s[at + 5], s[at + 6], s[at + 7]])
+    decode([
+        s[at],
+        s[at + 1],
+        s[at + 2],
+        s[at + 3],
+        s[at + 4],
+        s[at + 5],
+        s[at + 6],
+        s[at + 7],
+    ])
 }
 
 // The record of a command; that of `Malformed` is zeros.

@@ -2,17 +2,42 @@
 ghost use mathlib.Core.Path.{_≡_};
 ghost use Prim.Native.Nat.{_<_, _≤_};
 ghost use Rattle.floor.specs.Refusals.{beginRefusal, serveRefusal, deliverRefusal, stopRefusal, leaveRefusal, refusalIn};
-ghost use Rattle.floor.specs.Effects.{begun, servedRead, servedWrite, deliveredRead, deliveredWrite, stoppedBox, goneStation, effectIn};
+ghost use Rattle.floor.specs.Effects.{withState, begun, servedRead, servedWrite, deliveredRead, deliveredWrite, stoppedBox, goneStation, effectIn};
 use crate::Changed;
 use crate::Command;
 use crate::Outcome;
 use crate::Parts;
 use crate::Phase;
 use crate::ReadSlot;
+use crate::Row;
 use crate::Stage;
 use crate::Station;
 use crate::WriteSlot;
 use register::StorageBox;
+
+pub fn gathered(n: u8, m: u8, used: u8, row: Row, storage: StorageBox, station: Station) -> Parts
+    ensures { λ r. ⌜ r ≡ record { n = n; m = m; used = used; row = row; storage = storage; station = station } ⌝ }
+{
+    Parts {
+        n,
+        m,
+        used,
+        row,
+        storage,
+        station,
+    }
+}
+
+// The station in another state; its last round and its decided revision stay.
+fn with_state(st: Station, state: Phase) -> Station
+    ensures { λ r. ⌜ r ≡ withState st state ⌝ }
+{
+    Station {
+        state,
+        last: st.last,
+        decided: st.decided,
+    }
+}
 
 fn begin_refusal(p: Parts, s: u8, round: u16, v: u32) -> u8
     ensures { λ r. ⌜ r ≡ beginRefusal p s round v ⌝ }
@@ -231,11 +256,7 @@ fn deliver_read(p: Parts, a: u8, b: u8) -> Changed
     let v = super::rows::revision_of(w, p.n);
     let row = super::rows::issue(w, v, p.n);
     q.row = row;
-    let station = Station {
-        state: Phase::Writing(a),
-        last: st.last,
-        decided: st.decided,
-    };
+    let station = with_state(st, Phase::Writing(a));
     q.station = station;
     Changed {
         parts: q,
@@ -267,11 +288,7 @@ fn deliver_write(p: Parts, a: u8, b: u8) -> Changed
         };
     }
     if !super::rows::all_taken(w, p.n) {
-        let station = Station {
-            state: Phase::Idle,
-            last: st.last,
-            decided: st.decided,
-        };
+        let station = with_state(st, Phase::Idle);
         q.station = station;
         return Changed {
             parts: q,
@@ -308,11 +325,7 @@ fn leave(p: Parts, s: u8) -> Changed
 {
     let st = p.station;
     let mut q = p;
-    let station = Station {
-        state: Phase::Gone,
-        last: st.last,
-        decided: st.decided,
-    };
+    let station = with_state(st, Phase::Gone);
     q.station = station;
     Changed {
         parts: q,

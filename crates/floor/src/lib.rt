@@ -1,22 +1,29 @@
 // The cutting floor: its state, a new floor, and the steps that change it.
 //
 // A step looks at one row, one box and one station and changes no other. `kinds` decides on these alone, by value; the loop of
-// `run` is the one place that reads them out of a floor and stores them into it, so that no whole floor is moved for a step.
+// `run_sound` is the one place that reads them out of a floor and stores them into it, so that no whole floor is moved for a step.
 ghost use mathlib.Core.Path.{_≡_};
 ghost use lib.ListN.{length};
-ghost use Prim.Native.Nat.{_/_, _≤_};
+ghost use Prim.Native.Nat.{_*_, _/_, _≤_};
 ghost use Rattle.floor.specs.Floors.{emptyFloor, newFloorOf};
-ghost use Rattle.floor.specs.Sound.{stationsBelow, soundOf};
+ghost use Rattle.floor.specs.Sound.{stationsBelow, soundOf, Sound};
 ghost use Rattle.floor.specs.Step.{applyOf, stepOf};
-ghost use Rattle.floor.specs.Runs.{recordsFrom, runOf};
+ghost use Rattle.base.specs.Records.{recordsFrom};
+ghost use Rattle.floor.specs.Runs.{runOf};
 use register::Register;
 use register::StorageBox;
 
-mod masks;
-mod states;
 mod commands;
-mod rows;
 mod kinds;
+mod masks;
+mod rows;
+mod states;
+
+// Tests that callers of a step make of what it hands back.
+pub use states::busy;
+pub use states::gone;
+pub use states::number;
+pub use states::refused;
 
 // What a station does, with the attempt that it is in.
 pub enum Phase {
@@ -173,7 +180,7 @@ fn empty(n: u8, m: u8) -> Floor
 pub fn new_floor(n: u8, m: u8) -> NewFloor
     ensures { λ r. ⌜ r ≡ newFloorOf n m ⌝ }
 {
-    if !states::sizes_right(n, m) {
+    if !base::sizes_right(n, m) {
         return NewFloor {
             floor: empty(1, 1),
             refusal: 3,
@@ -201,10 +208,10 @@ fn stations_below(f: Floor) -> bool
 }
 
 // Refusal 6 does not apply.
-fn sound(f: Floor) -> bool
+pub fn sound(f: Floor) -> bool
     ensures { λ r. ⌜ r ≡ soundOf f ⌝ }
 {
-    if !states::sizes_right(f.n, f.m) {
+    if !base::sizes_right(f.n, f.m) {
         return false;
     }
     if 64 < f.used {
@@ -213,45 +220,22 @@ fn sound(f: Floor) -> bool
     stations_below(f)
 }
 
-// Takes the steps of a run of 8-byte records one after the other, up to the first that is refused. Bytes behind the last whole
-// record are not looked at.
-pub fn run(mut f: Floor, records: &[u8]) -> Ran
-    ensures { λ r. ⌜ r ≡ runOf f (recordsFrom (length (now (records .entry)) / 8) (now (records .entry)) 0) ⌝ }
+// The steps of `count` records on a sound floor. Bytes behind them are not looked at.
+fn run_sound(mut f: Floor, records: &[u8], count: usize) -> Ran
+    requires { ⌜ Sound f × (8 * count ≤ length (now records)) ⌝ }
+    ensures { λ r. ⌜ r ≡ runOf f (recordsFrom count (now (records .entry)) 0) ⌝ }
 {
-    let count = records.len() / 8;
     let mut last = Outcome::Refused(0);
-    if count == 0 {
-        return Ran {
-            floor: f,
-            accepted: 0,
-            last,
-        };
-    }
-    if !sound(f) {
-        return Ran {
-            floor: f,
-            accepted: 0,
-            last: Outcome::Refused(6),
-        };
-    }
     let mut k: usize = 0;
-    let mut at: usize = 0;
     while k < count {
-        let c = commands::command_at(records, at);
+        let c = commands::command_at(records, 8 * k);
         let i = commands::place(64, commands::attempt_in(c, f.used)) as usize;
         let b = commands::place(9, commands::box_in(c)) as usize;
         let row = f.rows[i];
         let j = commands::place(16, commands::station_in(c, row.station)) as usize;
         let storage = f.boxes[b];
         let station = f.stations[j];
-        let p = Parts {
-            n: f.n,
-            m: f.m,
-            used: f.used,
-            row,
-            storage,
-            station,
-        };
+        let p = kinds::gathered(f.n, f.m, f.used, row, storage, station);
         let e = kinds::refusal(p, c);
         if e != 0 {
             return Ran {
@@ -262,7 +246,6 @@ pub fn run(mut f: Floor, records: &[u8]) -> Ran
         }
         let y = kinds::effect(p, c);
         let q = y.parts;
-        last = y.outcome;
         let row2 = q.row;
         let storage2 = q.storage;
         let station2 = q.station;
@@ -270,14 +253,37 @@ pub fn run(mut f: Floor, records: &[u8]) -> Ran
         f.boxes[b] = storage2;
         f.stations[j] = station2;
         f.used = q.used;
+        last = y.outcome;
         k += 1;
-        at += 8;
     }
     Ran {
         floor: f,
         accepted: k,
         last,
     }
+}
+
+// Takes the steps of a run of 8-byte records one after the other, up to the first that is refused. Bytes behind the last whole
+// record are not looked at.
+pub fn run(f: Floor, records: &[u8]) -> Ran
+    ensures { λ r. ⌜ r ≡ runOf f (recordsFrom (length (now (records .entry)) / 8) (now (records .entry)) 0) ⌝ }
+{
+    let count = records.len() / 8;
+    if count == 0 {
+        return Ran {
+            floor: f,
+            accepted: 0,
+            last: Outcome::Refused(0),
+        };
+    }
+    if !sound(f) {
+        return Ran {
+            floor: f,
+            accepted: 0,
+            last: Outcome::Refused(6),
+        };
+    }
+    run_sound(f, records, count)
 }
 
 // A single step, handed in as its 8-byte record: a run of one.

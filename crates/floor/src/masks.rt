@@ -1,7 +1,6 @@
 // A set of boxes as the bits of a mask.
 ghost use mathlib.Core.Path.{_≡_};
 ghost use Prim.Native.Nat.{_<_, _≤_};
-ghost use Rattle.base.specs.Numbers.{quorum};
 ghost use Rattle.protocol.specs.Mask.{bit, setBit, countBelow};
 ghost use Rattle.floor.specs.State.{atQuorum};
 
@@ -28,18 +27,10 @@ fn count_below(mask: u16, n: u8) -> u32
     u16::count_ones(mask & (all - 1))
 }
 
-// The size of a quorum of n boxes, a majority.
-fn majority(n: u8) -> u32
-    requires { ⌜ n ≤ 9 ⌝ }
-    ensures { λ r. ⌜ r ≡ quorum n ⌝ }
-{
-    (n >> 1) as u32 + 1
-}
-
 // The boxes below n in the mask are exactly a quorum.
 pub fn at_quorum(mask: u16, n: u8) -> bool
     requires { ⌜ n ≤ 9 ⌝ }
     ensures { λ r. ⌜ r ≡ atQuorum mask n ⌝ }
 {
-    count_below(mask, n) == majority(n)
+    count_below(mask, n) == base::majority(n) as u32
 }

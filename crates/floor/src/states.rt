@@ -1,10 +1,11 @@
-// Tests of a station's state, of a request's stage and of the floor's numbers.
+// Tests of a station's state, of where a request stands and of an outcome.
 ghost use mathlib.Core.Path.{_≡_};
 ghost use mathlib.Core.Bool.{false};
 ghost use Prim.Native.Nat.{_<_};
 ghost use Rattle.base.specs.Choice.{if_then_else_};
-ghost use Rattle.base.specs.Numbers.{sizesRight};
 ghost use Rattle.floor.specs.State.{isGone, isBusy, isReading, isWriting, standing, isWaiting, isOnTheWay};
+ghost use Rattle.floor.specs.Step.{numberOf, isRefused};
+use crate::Outcome;
 use crate::Phase;
 use crate::Stage;
 
@@ -15,25 +16,6 @@ pub fn and(x: bool, y: bool) -> bool
         return y;
     }
     false
-}
-
-// Refusal 3 does not apply.
-pub fn sizes_right(n: u8, m: u8) -> bool
-    ensures { λ r. ⌜ r ≡ sizesRight n m ⌝ }
-{
-    if n < 1 {
-        return false;
-    }
-    if 9 < n {
-        return false;
-    }
-    if m < 1 {
-        return false;
-    }
-    if 16 < m {
-        return false;
-    }
-    true
 }
 
 pub fn gone(s: Phase) -> bool
@@ -111,5 +93,38 @@ pub fn on_the_way(s: Stage, mask: u16, b: u8) -> bool
         Stage::Unissued => false,
         Stage::Waiting => false,
         Stage::Answered => true,
+    }
+}
+
+// Document 01's number of an outcome: the refusal, 0 where the step was accepted.
+pub fn number(o: Outcome) -> u8
+    ensures { λ r. ⌜ r ≡ numberOf o ⌝ }
+{
+    match o {
+        Outcome::Begun(_) => 0,
+        Outcome::Served(_) => 0,
+        Outcome::Received(_) => 0,
+        Outcome::Aborted(_) => 0,
+        Outcome::WriteIssued(_) => 0,
+        Outcome::Decided(_) => 0,
+        Outcome::Stopped(_) => 0,
+        Outcome::Gone(_) => 0,
+        Outcome::Refused(k) => k,
+    }
+}
+
+pub fn refused(o: Outcome) -> bool
+    ensures { λ r. ⌜ r ≡ isRefused o ⌝ }
+{
+    match o {
+        Outcome::Begun(_) => false,
+        Outcome::Served(_) => false,
+        Outcome::Received(_) => false,
+        Outcome::Aborted(_) => false,
+        Outcome::WriteIssued(_) => false,
+        Outcome::Decided(_) => false,
+        Outcome::Stopped(_) => false,
+        Outcome::Gone(_) => false,
+        Outcome::Refused(_) => true,
     }
 }

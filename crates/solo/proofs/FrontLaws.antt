@@ -1,38 +1,20 @@
--- The refusals up front: the test of soundness that the code makes, what it means that none applies, and what comes of each case.
+-- The refusals up front: what it means that none applies, and what comes of each case.
 use Prim.Native.Nat.{ℕ, _≤_, _<_}
 use native.Mathlib.Omega.{arith}
 use mathlib.Core.Path.{_≡_, refl, sym, _∙_}
-use mathlib.Core.Bool.{Bool, true, false}
+use mathlib.Core.Bool.{true, false}
 use lib.ListN.{length}
-use lib.Dec.{eqb}
 use borrow.Author.Tests.{leb-false, lt-leb, ltb-false, le-ltb, eq-eqb, ne-eqb}
-use Rattle.base.specs.Choice.{if_then_else_}
 use Rattle.base.specs.Numbers.{quorum}
-use Rattle.base.proofs.Choices.{on-true, on-false, by-test}
+use Rattle.base.proofs.Choices.{on-true, on-false, by-test, passed}
 use Rattle.floor.specs.State.{stationAt, isGone, isBusy}
 use Rattle.floor.specs.Sound.{soundOf}
-use Rattle.floor.specs.Step.{numberOf, playOf, applyOf}
 use Rattle.floor.proofs.RefusalLaws.{positive}
 use Rattle.floor.specs.declared.Floor.{Floor}
-use Rattle.floor.specs.declared.Command.the-variants.{Malformed}
-use Rattle.floor.specs.declared.Stepped.{Stepped}
 use Rattle.solo.specs.Plan.{highestBegun, roundAbove, roundOf, answering, planOf}
 use Rattle.solo.specs.Drive.{driveOf}
 use Rattle.solo.specs.Solo.{frontRefusal, soloRefusal, turnedBack, soloOf}
 use Rattle.solo.specs.declared.Solo.{Solo}
-
--- a step of no kind says 7 on a sound floor, and 6 on any other
-pub sound-told : (f : Floor) → eqb (numberOf (applyOf f Malformed .outcome)) 7 ≡ soundOf f
-unfolding applyOf playOf
-sound-told f =
-    by-test (λ (s : Stepped). eqb (numberOf (s .outcome)) 7 ≡ soundOf f) (soundOf f) _ _
-    (λ e. by-test (λ (s : Stepped). eqb (numberOf (s .outcome)) 7 ≡ soundOf f) _ _ _ (λ _. sym e) (λ _. sym e)) sym
-
--- a chain of refusals that came to 0: its first test failed
-passed : (t : Bool) (k x : ℕ) → (if t then k else x) ≡ 0 → 0 < k → (t ≡ false) × (x ≡ 0)
-unfolding if_then_else_
-passed true k x e h = absurd (omega arith)
-passed false k x e h = (refl, e)
 
 -- no refusal from 8 on applies
 pub record MayFinish (f : Floor) (s v round : ℕ) : Type 0 where

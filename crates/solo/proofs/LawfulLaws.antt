@@ -15,7 +15,7 @@ use Rattle.floor.specs.Commands.{commandOf}
 use Rattle.floor.specs.Step.{isRefused, applyOf, stepOf}
 use Rattle.floor.proofs.Standings.{clash}
 use Rattle.floor.proofs.Stores.{getD-same}
-use Rattle.floor.proofs.SoundLaws.{Sizes, sizes-mean}
+use Rattle.base.proofs.SizeLaws.{Sizes, sizes-mean}
 use Rattle.floor.proofs.View.{StepView, turned, began, apply-view}
 use Rattle.floor.proofs.Keeps.{Lengths, apply-keeps, apply-lengths, empty-sound, empty-lengths}
 use Rattle.floor.proofs.BoxLaws.{box-grown}
@@ -30,7 +30,7 @@ use Rattle.floor.specs.declared.Outcome.the-variants.{Begun}
 use Rattle.floor.specs.declared.Command.{Command}
 use Rattle.floor.specs.declared.Command.the-variants.{Begin}
 use Rattle.solo.specs.Plan.{highestBegun}
-use Rattle.solo.specs.Counted.{after}
+use Rattle.floor.specs.Runs.{after}
 use Rattle.solo.specs.Progress.{Lawful}
 use Rattle.solo.proofs.RoundLaws.{highest-each, highest-most}
 

@@ -5,15 +5,11 @@ use mathlib.Core.Bool.{false}
 use mathlib.Core.List.{List, [], _∷_}
 use lib.ListN.{length, take}
 use Rattle.floor.specs.Step.{isRefused, stepOf}
+use Rattle.floor.specs.Runs.{after}
 use Rattle.floor.specs.declared.Floor.{Floor}
 use Rattle.floor.specs.declared.Outcome.{Outcome}
 use Rattle.floor.specs.declared.Outcome.the-variants.{Begun}
 use Rattle.solo.specs.declared.Solo.{Solo}
-
--- the floor after a list of steps, each given the floor that the one before handed back
-unfoldable pub after : Floor → List (List ℕ) → Floor
-after f [] = f
-after f (r ∷ rs) = after (stepOf f r .floor) rs
 
 -- what these steps said, in order
 unfoldable pub saidBy : Floor → List (List ℕ) → List Outcome

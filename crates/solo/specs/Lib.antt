@@ -3,4 +3,3 @@ pub mod Drive
 pub mod Solo
 pub mod Counted
 pub mod Progress
-pub mod Alone

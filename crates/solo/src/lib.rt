@@ -6,17 +6,13 @@ ghost use Prim.Native.Nat.{_<_, _≤_, max};
 ghost use lib.ListN.{length};
 ghost use lib.Dec.{ltb};
 ghost use Rattle.base.specs.Numbers.{quorum};
-ghost use Rattle.floor.specs.State.{isGone, isBusy};
-ghost use Rattle.floor.specs.Sound.{soundOf};
 ghost use Rattle.floor.specs.Commands.{encodeOf};
-ghost use Rattle.floor.specs.Step.{numberOf, isRefused};
 ghost use Rattle.solo.specs.Plan.{highestBegun, roundAbove, roundOf, answeringFrom, lowest, serveOf, deliverOf, exchange, exchanges, planOf};
 ghost use Rattle.solo.specs.Drive.{goesOn, counted, advanceOf, drivenBy, driveOf};
 ghost use Rattle.solo.specs.Solo.{frontRefusal, turnedBack, soloOf};
 use floor::Command;
 use floor::Floor;
 use floor::Outcome;
-use floor::Phase;
 use floor::Stepped;
 use register::StorageBox;
 
@@ -37,38 +33,6 @@ fn turned_back(f: Floor, k: u8) -> Solo
     }
 }
 
-fn number(o: Outcome) -> u8
-    ensures { λ r. ⌜ r ≡ numberOf o ⌝ }
-{
-    match o {
-        Outcome::Begun(_) => 0,
-        Outcome::Served(_) => 0,
-        Outcome::Received(_) => 0,
-        Outcome::Aborted(_) => 0,
-        Outcome::WriteIssued(_) => 0,
-        Outcome::Decided(_) => 0,
-        Outcome::Stopped(_) => 0,
-        Outcome::Gone(_) => 0,
-        Outcome::Refused(k) => k,
-    }
-}
-
-fn refused(o: Outcome) -> bool
-    ensures { λ r. ⌜ r ≡ isRefused o ⌝ }
-{
-    match o {
-        Outcome::Begun(_) => false,
-        Outcome::Served(_) => false,
-        Outcome::Received(_) => false,
-        Outcome::Aborted(_) => false,
-        Outcome::WriteIssued(_) => false,
-        Outcome::Decided(_) => false,
-        Outcome::Stopped(_) => false,
-        Outcome::Gone(_) => false,
-        Outcome::Refused(_) => true,
-    }
-}
-
 fn goes_on(o: Outcome) -> bool
     ensures { λ r. ⌜ r ≡ goesOn o ⌝ }
 {
@@ -83,15 +47,6 @@ fn goes_on(o: Outcome) -> bool
         Outcome::Gone(_) => true,
         Outcome::Refused(_) => false,
     }
-}
-
-// Refusal 6 does not apply: a step of no kind is turned back with 6 on a floor that is not sound, and with 7 on one that is.
-fn sound(f: Floor) -> bool
-    ensures { λ r. ⌜ r ≡ soundOf f ⌝ }
-{
-    let s = floor::apply(f, Command::Malformed);
-    let o = s.outcome;
-    number(o) == 7
 }
 
 fn larger(x: u32, y: u32) -> u32
@@ -129,14 +84,6 @@ fn round_above(h: u32, s: u8) -> u32
     (h - own) / 16 + 1
 }
 
-// The size of a quorum of n boxes, a majority.
-fn majority(n: u8) -> u8
-    requires { ⌜ n ≤ 9 ⌝ }
-    ensures { λ r. ⌜ r ≡ quorum n ⌝ }
-{
-    n / 2 + 1
-}
-
 // How many of the first n boxes have not stopped.
 fn count_answering(boxes: [StorageBox; 9], n: u8) -> u8
     requires { ⌜ n ≤ 9 ⌝ }
@@ -159,31 +106,7 @@ fn too_few(boxes: [StorageBox; 9], n: u8) -> bool
     requires { ⌜ n ≤ 9 ⌝ }
     ensures { λ r. ⌜ r ≡ ltb (length (answeringFrom n 0 boxes)) (quorum n) ⌝ }
 {
-    count_answering(boxes, n) < majority(n)
-}
-
-fn gone(s: Phase) -> bool
-    ensures { λ r. ⌜ r ≡ isGone s ⌝ }
-{
-    match s {
-        Phase::Idle => false,
-        Phase::Reading(_) => false,
-        Phase::Writing(_) => false,
-        Phase::Decided(_) => false,
-        Phase::Gone => true,
-    }
-}
-
-fn busy(s: Phase) -> bool
-    ensures { λ r. ⌜ r ≡ isBusy s ⌝ }
-{
-    match s {
-        Phase::Idle => false,
-        Phase::Reading(_) => true,
-        Phase::Writing(_) => true,
-        Phase::Decided(_) => true,
-        Phase::Gone => false,
-    }
+    count_answering(boxes, n) < base::majority(n)
 }
 
 // The first of refusals 8 to 12 and 15 that applies, 0 where none does.
@@ -196,10 +119,10 @@ fn refusal(f: Floor, s: u8, v: u32, round: u32) -> u8
     }
     let station = f.stations[s as usize];
     let state = station.state;
-    if gone(state) {
+    if floor::gone(state) {
         return 9;
     }
-    if busy(state) {
+    if floor::busy(state) {
         return 10;
     }
     if v == 0 {
@@ -225,7 +148,7 @@ fn count(k: u8, s: Stepped) -> Solo
 {
     let f = s.floor;
     let o = s.outcome;
-    if refused(o) {
+    if floor::refused(o) {
         return Solo {
             floor: f,
             steps: k,
@@ -308,7 +231,7 @@ fn drive(f: Floor, s: u8, round: u16, v: u32) -> Solo
     let boxes = f.boxes;
     let n = f.n;
     let a = f.used;
-    let q = majority(n);
+    let q = base::majority(n);
     let begun = floor::apply(f, Command::Begin(s, round, v));
     let d = count(0, begun);
     let e = phase(d, boxes, n, false, a, q);
@@ -319,7 +242,7 @@ fn drive(f: Floor, s: u8, round: u16, v: u32) -> Solo
 pub fn solo_finish(f: Floor, s: u8, v: u32) -> Solo
     ensures { λ r. ⌜ r ≡ soloOf f s v ⌝ }
 {
-    if !sound(f) {
+    if !floor::sound(f) {
         return turned_back(f, 6);
     }
     let round = round_above(highest(f), s);

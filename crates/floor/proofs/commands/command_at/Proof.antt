@@ -1,9 +1,10 @@
 use borrow.Author.Needs.{needs}
-use Rattle.floor.proofs.Records.{record-bytes}
+use Rattle.base.specs.Records.{recordAt}
 use Rattle.floor.proofs.commands.command_at.Statement.{statement}
 use Rattle.floor.proofs.commands.command_at.Tie as tie
 
 pub command-at-spec : {M : Type 1} → statement M
+unfolding recordAt
 command-at-spec =
     tie.close
     (tie.spec
@@ -23,4 +24,4 @@ command-at-spec =
     (λ c. search needs)
     (λ c. search needs)
     (λ c κs. search needs)
-    (λ c. rw (record-bytes (c .before .before .before .before .before .before .before .before .before .before .args .s .now) (c .before .before .before .before .before .before .before .before .before .before .args .at) (c .before .before .before .before .before .before .before .before .before .before .pre)) (c .decode .ensures)))
+    (λ c. c .decode .ensures))

@@ -18,4 +18,5 @@ deliver-read-spec =
     (λ c. rw (← c .before .before .before .before .with-bit .ensures) (on-true _ (search tests) (on-false _ (search tests) (refl))))
     (λ c κs. search needs)
     (λ c κs. search needs)
-    (λ c. rw (← c .before .before .before .before .before .before .with-bit .ensures) (on-true _ (search tests) (on-true _ (search tests) (rw (c .issue .ensures, c .before .revision-of .ensures))))))
+    (λ c κs. search needs)
+    (λ c. rw (← c .before .before .before .before .before .before .before .with-bit .ensures) (on-true _ (search tests) (on-true _ (search tests) (rw (c .with-state .ensures, c .before .issue .ensures, c .before .before .revision-of .ensures))))))

@@ -17,5 +17,6 @@ deliver-write-spec =
     (λ c κs. search needs)
     (λ c. rw (← c .before .before .before .before .with-bit .ensures) (on-true _ (search tests) (on-false _ (search tests) (refl))))
     (λ c κs. search needs)
-    (λ c. rw (← c .before .before .before .before .before .before .with-bit .ensures) (on-true _ (search tests) (on-true _ (search tests) (on-false _ (search tests) (refl)))))
+    (λ c κs. search needs)
+    (λ c. rw (← c .before .before .before .before .before .before .before .with-bit .ensures) (on-true _ (search tests) (on-true _ (search tests) (on-false _ (search tests) (rw (c .with-state .ensures))))))
     (λ c. rw (← c .before .before .before .before .before .before .with-bit .ensures) (on-true _ (search tests) (on-true _ (search tests) (on-true _ (search tests) (refl))))))

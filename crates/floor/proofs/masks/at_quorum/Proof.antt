@@ -10,4 +10,5 @@ at-quorum-spec =
     (tie.spec
     (λ c κs. search needs)
     (λ c κs. search needs)
+    (λ c. search needs)
     (λ c. cc))

@@ -1,4 +1,6 @@
 use borrow.Author.Needs.{needs}
+use mathlib.Core.Path.{ap}
+use lib.Bits.{bitOr}
 use Rattle.protocol.specs.Mask.{setBit}
 use Rattle.floor.proofs.Shifts.{one-shifted}
 use Rattle.floor.proofs.masks.with_bit.Statement.{statement}
@@ -10,4 +12,4 @@ with-bit-spec =
     tie.close
     (tie.spec
     (λ c. search needs)
-    (λ c. rw (one-shifted (c .args .b) (c .pre))))
+    (λ c. ap (bitOr (c .args .mask)) (one-shifted (c .args .b) (c .pre))))

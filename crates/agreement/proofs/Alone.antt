@@ -1,0 +1,105 @@
+-- What a solo finish asks of a floor, read off the list, and what its plan delivers.
+use Prim.Native.Nat.{ℕ, zero, suc, _+_, _≤_, _<_}
+use native.Mathlib.Nat.{zero-add, le-trans}
+use native.Mathlib.Omega.{arith}
+use mathlib.Core.Path.{_≡_, refl, sym, subst, _∙_}
+use mathlib.Core.Bool.{Bool, true, false}
+use mathlib.Core.List.{List, [], _∷_, _++_}
+use lib.ListN.{length, getD, take}
+use Rattle.base.proofs.Choices.{by-test}
+use Rattle.register.specs.declared.StorageBox.{StorageBox}
+use Rattle.protocol.specs.Quorum.{indicator, count, Majority}
+use Rattle.protocol.proofs.QuorumLaws.{count-low}
+use Rattle.floor.specs.State.{box0}
+use Rattle.floor.specs.Commands.{commandOf, encodeOf}
+use Rattle.floor.specs.declared.Floor.{Floor}
+use Rattle.floor.specs.declared.Command.{Command}
+use Rattle.floor.specs.declared.Command.the-variants.{Begin, ServeRead, ServeWrite, DeliverRead, DeliverWrite}
+use Rattle.floor.proofs.Standings.{clash}
+use Rattle.floor.proofs.Encodings.{decode-encode}
+use Rattle.solo.specs.Plan.{roundOf, answeringFrom, askedOf, exchange, exchanges, planOf}
+use Rattle.solo.specs.Progress.{Ready}
+use Rattle.solo.proofs.RoundLaws.{round-smallest}
+use Rattle.agreement.specs.Words.{floorAt, Answering, IdleAt, attemptsBefore, RoundLeft}
+use Rattle.agreement.proofs.Reach.{New}
+use Rattle.agreement.proofs.Positions.{size-at}
+use Rattle.agreement.proofs.Standing.{stations-at, used-at, stopped-before, idle-state, round-outranks}
+
+-- a set of boxes that have not stopped is no larger than the list of them
+count-answering : (boxes : List StorageBox) (k b : ℕ) (set : ℕ → Bool) → ((j : ℕ) → j < k → set j ≡ true → getD boxes (b + j) box0 .stopped ≡ false)
+    → count set k ≤ length (answeringFrom k b boxes)
+unfolding count answeringFrom
+count-answering boxes zero b set h = omega arith
+count-answering boxes (suc k) b set h =
+    let rest = count-answering boxes k (b + 1) (λ j. set (suc j)) (λ j u t. let q : b + suc j ≡ b + 1 + j = omega arith in subst At q (h (suc j) (omega arith) t)) in
+    by-test (λ (x : List ℕ). count set (suc k) ≤ length x) (getD boxes b box0 .stopped) _ _
+    (λ e. omega (arith, count-low k set, rest, none (set 0) (λ t. clash e (subst At first (h 0 (omega arith) t)))))
+    (λ e. omega (arith, count-low k set, rest, at-most (set 0)))
+  where
+    At : ℕ → Type 0
+    At c = getD boxes c box0 .stopped ≡ false
+
+    first : b + 0 ≡ b
+    first = omega arith
+
+    none : (t : Bool) → ¬ (t ≡ true) → indicator t ≡ 0
+    none true n = absurd (n refl)
+    none false n = refl
+
+    at-most : (t : Bool) → indicator t ≤ 1
+    at-most true = omega arith
+    at-most false = omega arith
+
+is-false : (t : Bool) → ¬ (t ≡ true) → t ≡ false
+is-false true h = absurd (h refl)
+is-false false h = refl
+
+-- the words of the list, on the floor before the step at i
+module _ (f : Floor) (l : List (List ℕ)) (new : New f) (s v i : ℕ) where
+  pub ready : s < f .m → IdleAt f l s i → Majority (f .n) (Answering f l i) → attemptsBefore f l i < 64 → RoundLeft f l s i → 0 < v → Ready (floorAt f l i) s v
+  ready place idle boxes few round offer = record {
+    station = omega (arith, stations-at f l new i);
+    idle = idle-state f l new s i idle;
+    offer = offer;
+    round = omega (arith, round-smallest (floorAt f l i) s .least (round .round) (round .least) (round-outranks f l new s i round), round .most);
+    row = omega (arith, used-at f l new i);
+    boxes = rw (size-at f l i) (le-trans (boxes .large)
+        (count-answering (floorAt f l i .boxes) (f .n) 0 (boxes .set) (λ j h t. subst (λ (b : ℕ). getD (floorAt f l i .boxes) b box0 .stopped ≡ false) (sym (zero-add j))
+        (is-false _ (λ e. boxes .each j h t (stopped-before f l new j i e))))));
+  }
+
+-- Of the records of the plan, a delivery of a write answer is one of the attempt a.
+abbrev Delivers : ℕ → List ℕ → Type 0
+Delivers a r = (x b : ℕ) → commandOf r ≡ DeliverWrite x b → x ≡ a
+
+abbrev Each : (List ℕ → Type 0) → List (List ℕ) → Type 0
+Each P [] = Unit {0}
+Each P (r ∷ l) = P r × Each P l
+
+each-at : (P : List ℕ → Type 0) (l : List (List ℕ)) → Each P l → (i : ℕ) → i < length l → P (getD l i [])
+each-at P [] e i h = absurd (omega arith)
+each-at P (r ∷ l) e zero h = e .0
+each-at P (r ∷ l) e (suc i) h = each-at P l (e .1) i (omega arith)
+
+each-append : (P : List ℕ → Type 0) (l k : List (List ℕ)) → Each P l → Each P k → Each P (l ++ k)
+each-append P [] k e g = g
+each-append P (r ∷ l) k e g = (e .0, each-append P l k (e .1) g)
+
+delivers : (a : ℕ) (c : Command) → ((x b : ℕ) → c ≡ DeliverWrite x b → x ≡ a) → Delivers a (encodeOf c)
+delivers a c d x b q = d x b (sym (decode-encode c) ∙ q)
+
+exchanges-deliver : (a : ℕ) (write : Bool) (l : List ℕ) → Each (Delivers a) (exchanges write a l)
+unfolding exchanges exchange
+exchanges-deliver a write [] = tt
+exchanges-deliver a false (b ∷ l) = (delivers a (ServeRead a b) (λ x y q. cc), (delivers a (DeliverRead a b) (λ x y q. cc), exchanges-deliver a false l))
+exchanges-deliver a true (b ∷ l) = (delivers a (ServeWrite a b) (λ x y q. cc), (delivers a (DeliverWrite a b) (λ x y q. cc), exchanges-deliver a true l))
+
+plan-each : (g : Floor) (s v : ℕ) → Each (Delivers (g .used)) (planOf g s v)
+unfolding planOf
+plan-each g s v = (
+  delivers (g .used) (Begin s (roundOf g s) v) (λ x b q. cc),
+  each-append (Delivers (g .used)) (exchanges false (g .used) (askedOf g)) _ (exchanges-deliver (g .used) false (askedOf g)) (exchanges-deliver (g .used) true (askedOf g)),
+)
+
+pub plan-delivers : (g : Floor) (s v i : ℕ) → i < length (planOf g s v) → Delivers (g .used) (getD (planOf g s v) i [])
+plan-delivers g s v = each-at (Delivers (g .used)) (planOf g s v) (plan-each g s v)

@@ -1,0 +1,138 @@
+-- A begin: the floor after it shows the history with the offer.
+use Prim.Native.Nat.{ℕ, zero, suc, _+_, _/_, _%_, _≤_, _<_}
+use native.Mathlib.Nat.{le-refl, le-trans}
+use native.Mathlib.Omega.{arith}
+use mathlib.Core.Path.{_≡_, refl, sym, ap, subst, _∙_}
+use mathlib.Core.Bool.{false}
+use mathlib.Core.List.{List, _∷_, List·Memᴰ·head}
+use lib.ListN.{getD, set}
+use Rattle.base.specs.Numbers.{rankOf}
+use Rattle.protocol.specs.Trace.{took, note, Edit, there, other, other-event}
+use Rattle.protocol.proofs.MaskLaws.{bit-zero}
+use Rattle.floor.specs.State.{station0, row0, readSlot0, writeSlot0, stationAt, rowAt}
+use Rattle.floor.specs.Sound.{Sound}
+use Rattle.floor.specs.Rows.{readsWaiting, newRow}
+use Rattle.floor.specs.declared.Station.{Station}
+use Rattle.floor.specs.declared.ReadSlot.{ReadSlot}
+use Rattle.floor.specs.declared.WriteSlot.{WriteSlot}
+use Rattle.floor.specs.declared.Row.{Row}
+use Rattle.floor.specs.declared.Floor.{Floor}
+use Rattle.floor.proofs.Standings.{clash}
+use Rattle.floor.proofs.Forms.{beginner, afterBegin}
+use Rattle.floor.proofs.View.{CanBegin}
+use Rattle.floor.proofs.Keeps.{Lengths, row-stored, station-stored}
+use Rattle.floor.proofs.Stores.{set-all, set-in, edit-set, getD-same}
+use Rattle.agreement.proofs.History.{offered, Happening, History, Unwritten, unwritten-more, isAnswered, isIssued, Paired, RowShows, station-kept-by, stations-stored, Shows, row-more}
+use Rattle.agreement.proofs.Serves.{StepTo}
+
+-- a request that waits has no answer
+abbrev Unread : ReadSlot → Type 0
+Unread x = (isAnswered (x .stage) ≡ false) × Paired (x .rank) (x .value)
+
+waiting-unread : (k b : ℕ) → Unread (getD (readsWaiting k) b readSlot0)
+unfolding readsWaiting
+waiting-unread zero b = rw (getD-same 9 b readSlot0) (refl, (λ e. refl, λ h. h))
+waiting-unread (suc k) b = set-all readSlot0 (λ (j : ℕ) (x : ReadSlot). Unread x) (readsWaiting k) k _ (waiting-unread k) (refl, (λ e. refl, λ h. h)) b
+
+module _ {f : Floor} {l : History} (s : Shows f l) (y : Lengths f) (z : Sound f) (t round v : ℕ) (d : CanBegin f t round v) where
+  abbrev rank : ℕ
+  rank = rankOf round t
+
+  abbrev event : Happening
+  event = note (offered v)
+
+  abbrev row : Row
+  row = newRow (f .n) t round v
+
+  abbrev rows : List Row
+  rows = set (f .rows) (f .used) row
+
+  abbrev stations : List Station
+  stations = set (f .stations) t (beginner f t round)
+
+  here : rank % 16 ≡ t
+  here = omega (arith, d .station, z .station-most)
+
+  -- the rank is not begun yet, so nothing was written at it, and no row has it
+  unbegun : stationAt f (rank % 16) .last < rank / 16
+  unbegun = omega (arith, ap (λ (j : ℕ). stationAt f j .last) here, d .later)
+
+  unwritten : Unwritten (event ∷ l) rank
+  unwritten = unwritten-more l rank event (λ q. omega arith) (s .unbegun rank unbegun)
+
+  unused : (k : ℕ) → k < f .used → ¬ (rowAt f k .rank ≡ rank)
+  unused k h q = omega (arith, s .begun k h, subst (λ (r : ℕ). stationAt f (r % 16) .last < r / 16) (sym q) unbegun)
+
+  new-row : RowShows row (event ∷ l)
+  unfolding newRow
+  new-row = record {
+    positive = omega (arith, d .later);
+    place = here;
+    revision = d .offer;
+    offer = List·Memᴰ·head refl;
+    reads = record {
+      received = λ b m. clash m (bit-zero b);
+      answered = λ b h. clash h (waiting-unread (f .n) b .0);
+      paired = λ b. waiting-unread (f .n) b .1;
+    };
+    writes = record {
+      received = λ b m. clash m (bit-zero b);
+      after-issue = λ b h. clash h (ap (λ (x : WriteSlot). isIssued (x .stage)) (getD-same 9 b writeSlot0));
+      issue = λ h. absurd (omega arith);
+      unwritten = λ _. unwritten;
+      taken = λ b h. clash h (ap (λ (x : WriteSlot). isAnswered (x .stage)) (getD-same 9 b writeSlot0));
+      refusal = λ b h. clash h (ap (λ (x : WriteSlot). isAnswered (x .stage)) (getD-same 9 b writeSlot0));
+      only = λ b m. absurd (unwritten (took rank b) m refl);
+    };
+  }
+
+  at-row : (k : ℕ) → Edit (rowAt f) (λ j. getD rows j row0) (f .used) (λ x. row) k
+  at-row = edit-set row0 (f .rows) (f .used) row (omega (arith, y .rows, d .row))
+
+  rank-at : {x w : Row} → x ≡ w → x .rank ≡ w .rank
+  rank-at e = ap (λ (w : Row). w .rank) e
+
+  distinct : (i j : ℕ) → i < f .used + 1 → j < f .used + 1 → getD rows i row0 .rank ≡ getD rows j row0 .rank → i ≡ j
+  unfolding newRow
+  distinct i j hi hj q = elim (at-row i) [
+    | there p e ↦ elim (at-row j) [
+      | there o g ↦ p ∙ sym o
+      | other o g ↦ absurd (unused j (omega arith) (sym (rank-at g) ∙ sym q ∙ rank-at e))
+    ]
+    | other p e ↦ elim (at-row j) [
+      | there o g ↦ absurd (unused i (omega arith) (sym (rank-at e) ∙ q ∙ rank-at g))
+      | other o g ↦ s .distinct i j (omega arith) (omega arith) (sym (rank-at e) ∙ q ∙ rank-at g)
+    ]
+  ]
+
+  -- no last round falls
+  last-up : (j : ℕ) → stationAt f j .last ≤ getD stations j station0 .last
+  last-up =
+      set-all station0 (λ (j : ℕ) (x : Station). stationAt f j .last ≤ x .last) (f .stations) t (beginner f t round) (λ j. le-refl (stationAt f j .last)) (omega (arith, d .later))
+
+  last-now : getD stations t station0 .last ≡ round
+  last-now = ap (λ (x : Station). x .last) (station-stored f y z t (beginner f t round) (d .station))
+
+  pub begin-step : StepTo f l (afterBegin f t round v) event
+  unfolding newRow
+  begin-step = record {
+    step = other-event (λ j. refl);
+    shows = record {
+      paired = s .paired;
+      rows = set-in row0 (λ (k : ℕ) (x : Row). k < f .used + 1 → RowShows x (event ∷ l)) (f .rows) (f .used) row (omega (arith, y .rows, d .row))
+          (λ k p h. row-more event (λ q. omega arith) (s .rows k (omega arith))) (λ h. new-row);
+      distinct = distinct;
+      begun = set-in row0 (λ (k : ℕ) (x : Row). k < f .used + 1 → x .rank / 16 ≤ getD stations (x .rank % 16) station0 .last) (f .rows) (f .used) row
+          (omega (arith, y .rows, d .row))
+          (λ k p h. le-trans (s .begun k (omega arith)) (last-up (rowAt f k .rank % 16)))
+          (λ h. omega (arith, ap (λ (j : ℕ). getD stations j station0 .last) here, last-now, here));
+      unbegun = λ r h. unwritten-more l r event (λ q. omega arith) (s .unbegun r (omega (arith, last-up (r % 16))));
+      stations = stations-stored (f .used + 1) rows (f .stations) t (beginner f t round) (omega (arith, y .stations, d .station, z .station-most))
+          (λ j p. station-kept-by (f .used) (f .used + 1) (f .rows) (f .used) row j (stationAt f j .decided) (omega arith) (λ h. absurd (omega arith))
+          (stationAt f j .state) (s .stations j))
+          (omega arith, ap (λ (w : Row). w .station) stored, ap (λ (w : Row). w .written) stored);
+    };
+  }
+    where
+      stored : getD rows (f .used) row0 ≡ row
+      stored = row-stored f y z (f .used) row (d .row)

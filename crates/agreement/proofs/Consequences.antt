@@ -1,0 +1,132 @@
+-- What follows: nothing is accepted behind the end of the list, each decision is a station's, and that station is settled.
+use Prim.Native.Nat.{ℕ, zero, suc, _<_}
+use native.Mathlib.Decide.{decLt}
+use native.Mathlib.Omega.{arith}
+use mathlib.Core.Path.{_≡_, refl, sym, ap, subst, _∙_}
+use mathlib.Core.Logic.{_⊎_, inl, inr}
+use mathlib.Core.Bool.{Bool, true, false}
+use mathlib.Core.List.{List, []}
+use lib.ListN.{length, getD, List·getD-eq-default}
+use borrow.Author.Tests.{lt-leb}
+use Rattle.base.specs.Choice.{if_then_else_}
+use Rattle.base.proofs.Choices.{on-true, on-false}
+use Rattle.floor.specs.State.{stationAt, isGone, isBusy}
+use Rattle.floor.specs.Sound.{Sound}
+use Rattle.floor.specs.Commands.{between, commandOf}
+use Rattle.floor.specs.Refusals.{beginRefusal}
+use Rattle.floor.specs.Step.{isRefused, look, applyOf, stepOf}
+use Rattle.floor.specs.declared.Phase.{Phase}
+use Rattle.floor.specs.declared.Phase.the-variants.{Idle, Reading, Writing, Decided, Gone}
+use Rattle.floor.specs.declared.Station.{Station}
+use Rattle.floor.specs.declared.Floor.{Floor}
+use Rattle.floor.specs.declared.Stepped.{Stepped}
+use Rattle.floor.specs.declared.Command.{Command}
+use Rattle.floor.specs.declared.Command.the-variants.{Begin, Malformed}
+use Rattle.floor.specs.declared.Outcome.{Outcome}
+use Rattle.floor.specs.declared.Outcome.the-variants as said
+use Rattle.floor.proofs.Standings.{clash, is-reading, is-writing, is-idle}
+use Rattle.floor.proofs.SoundLaws.{place-same}
+use Rattle.floor.proofs.StepLaws.{apply-refused}
+use Rattle.floor.proofs.View.{StepView, turned, step-view}
+use Rattle.floor.proofs.Keeps.{new-sound}
+use Rattle.floor.proofs.Moves.{StationMove, station-kept, station-begins, station-issues, station-decides, station-aborts, station-leaves, apply-station}
+use Rattle.agreement.specs.Words.{commandAt, floorAt, saidAt, DecidesAt, shownAt}
+use Rattle.agreement.specs.Demand.{firstFloor}
+use Rattle.agreement.specs.Consequences.{Consequences}
+use Rattle.agreement.proofs.Reach.{New, new-floor}
+use Rattle.agreement.proofs.Positions.{up-to}
+use Rattle.agreement.proofs.Safety.{agreement, decision-of, decider-at, shown-decided, shown-still}
+use Rattle.agreement.proofs.Standing.{stations-at, sound-at}
+
+-- a record with no bytes is malformed
+no-bytes : commandOf [] ≡ Malformed
+unfolding commandOf between if_then_else_
+no-bytes = refl
+
+malformed : {f : Floor} {s : Stepped} → StepView f Malformed s → isRefused (s .outcome) ≡ true
+malformed (turned k t) = refl
+
+-- a begin for a station that is gone or busy
+module _ (f : Floor) (z : Sound f) (s round v : ℕ) (h : s < f .m) where
+  abbrev c : Command
+  c = Begin s round v
+
+  state-seen : look f c .station .state ≡ stationAt f s .state
+  state-seen = ap (λ (j : ℕ). stationAt f j .state) (place-same 16 s (omega (arith, z .station-most)))
+
+  begin-refused : (k : ℕ) → 0 < k → beginRefusal (look f c) s round v ≡ k → applyOf f c .outcome ≡ said.Refused k
+  begin-refused k p q = ap (λ (x : Stepped). x .outcome) (apply-refused f c z (λ e. omega arith)) ∙ ap said.Refused q
+
+  begin-gone : isGone (stationAt f s .state) ≡ true → applyOf f c .outcome ≡ said.Refused 9
+  unfolding beginRefusal
+  begin-gone g = begin-refused 9 (omega arith) (sym (on-false _ (lt-leb _ _ h) (on-true _ (ap isGone state-seen ∙ g) refl)))
+
+  begin-busy : isGone (stationAt f s .state) ≡ false → isBusy (stationAt f s .state) ≡ true → applyOf f c .outcome ≡ said.Refused 10
+  unfolding beginRefusal
+  begin-busy g b =
+      begin-refused 10 (omega arith) (sym (on-false _ (lt-leb _ _ h) (on-false _ (ap isGone state-seen ∙ g) (on-true _ (ap isBusy state-seen ∙ b) refl))))
+
+-- a station that is gone, or that decided
+abbrev isOver : Phase → Bool
+isOver Idle = false
+isOver (Reading a) = false
+isOver (Writing a) = false
+isOver (Decided a) = true
+isOver Gone = true
+
+begin-over : (f : Floor) → Sound f → (s round v : ℕ) → s < f .m → (p : Phase) → stationAt f s .state ≡ p → isOver p ≡ true
+    → (applyOf f (Begin s round v) .outcome ≡ said.Refused 9) ⊎ (applyOf f (Begin s round v) .outcome ≡ said.Refused 10)
+begin-over f z s r v h Idle e o = clash o refl
+begin-over f z s r v h (Reading a) e o = clash o refl
+begin-over f z s r v h (Writing a) e o = clash o refl
+begin-over f z s r v h (Decided a) e o = inr (begin-busy f z s r v h (ap isGone e) (ap isBusy e))
+begin-over f z s r v h Gone e o = inl (begin-gone f z s r v h (ap isGone e))
+
+-- it stays so at every step
+over-stays : {f : Floor} {c : Command} {j : ℕ} {o : Outcome} {x : Station} → StationMove f c j o x → isOver (stationAt f j .state) ≡ true → isOver (x .state) ≡ true
+over-stays station-kept e = e
+over-stays {f} {j = j} (station-begins q g b l) e = clash e (ap isOver (is-idle (stationAt f j .state) g b))
+over-stays {f} {j = j} (station-issues {a = a} q u w r) e = clash e (ap isOver (is-reading (stationAt f j .state) a r))
+over-stays (station-decides q u w r v) e = refl
+over-stays {f} {j = j} (station-aborts {a = a} q u w r) e = clash e (ap isOver (is-writing (stationAt f j .state) a r))
+over-stays (station-leaves q g) e = refl
+
+module _ (f : Floor) (l : List (List ℕ)) (new : New f) where
+  inside : (i : ℕ) → isRefused (saidAt f l i) ≡ false → i < length l
+  inside i e = elim (decLt i (length l)) [
+    | yes h ↦ h
+    | no h ↦ (
+        let q : commandAt l i ≡ Malformed = ap commandOf (List·getD-eq-default l [] {n = i} (omega arith)) ∙ no-bytes in
+        clash (malformed (subst (λ (c : Command). StepView (floorAt f l i) c (stepOf (floorAt f l i) (getD l i []))) q (step-view (floorAt f l i) (getD l i [])))) e)
+  ]
+
+  -- the station of a decision is one of the floor's
+  station-below : Sound f → (s v k : ℕ) → DecidesAt f l s v k → s < f .m
+  station-below z s v k d = let o = decider-at f l new s v k d in omega (arith, sound-at f l new z k .stations (o .row) (o .used), o .owner, stations-at f l new k)
+
+  -- after its decision a station is over
+  over-since : (s v k i : ℕ) → DecidesAt f l s v k → k < i → isOver (stationAt (floorAt f l i) s .state) ≡ true
+  unfolding floorAt stepOf
+  over-since s v k zero d h = absurd (omega arith)
+  over-since s v k (suc i) d h = elim (up-to h) [
+    | inl q ↦ ap (λ (x : Station). isOver (x .state)) (decider-at f l new s v i (subst (DecidesAt f l s v) q d) .settled)
+    | inr q ↦ over-stays (apply-station (floorAt f l i) (commandAt l i) s) (over-since s v k i d q)
+  ]
+
+  stays : (s v k i : ℕ) → DecidesAt f l s v k → k < i → shownAt f l s i ≡ v
+  stays s v k i d h = let x = shown-decided f l new s i (shown-still f l new s v k i d h) in agreement f l new (x .at) k _ v (x .holds .accepted) (d .accepted)
+
+  over : Sound f → (s v k i round u : ℕ) → DecidesAt f l s v k → k < i → commandAt l i ≡ Begin s round u
+      → (saidAt f l i ≡ said.Refused 9) ⊎ (saidAt f l i ≡ said.Refused 10)
+  unfolding stepOf
+  over z s v k i round u d h e =
+      subst (λ (c : Command). (applyOf (floorAt f l i) c .outcome ≡ said.Refused 9) ⊎ (applyOf (floorAt f l i) c .outcome ≡ said.Refused 10)) (sym e)
+      (begin-over (floorAt f l i) (sound-at f l new z i) s round u (omega (arith, station-below z s v k d, stations-at f l new i)) _ refl (over-since s v k i d h))
+
+pub consequences : (n m : ℕ) (l : List (List ℕ)) → Consequences n m l
+consequences n m l = let f = firstFloor n m in let new = new-floor n m in record {
+  inside = inside f l new;
+  station = λ i v e. let d = decision-of f l new i v e in (d .0, station-below f l new (new-sound n m) (d .0) v i (d .1), d .1);
+  stays = stays f l new;
+  over = over f l new (new-sound n m);
+}

@@ -1,0 +1,214 @@
+-- The history of a run, for the theory of crate `protocol`, and the relation between a floor and its history.
+use Prim.Native.Nat.{ℕ, suc, _/_, _%_, _≤_, _<_}
+use native.Mathlib.Omega.{arith}
+use mathlib.Core.Path.{_≡_, refl, sym, ap, subst, _∙_}
+use mathlib.Core.Logic.{inl, inr}
+use mathlib.Core.Bool.{Bool, true, false}
+use mathlib.Core.List.{List, _∷_, List·Memᴰ, List·Memᴰ·tail, List·Memᴰ·cases-cons}
+use lib.ListN.{length, getD, set}
+use Rattle.register.specs.declared.StorageBox.{StorageBox}
+use Rattle.protocol.specs.Mask.{bit}
+use Rattle.protocol.specs.Trace.{Box, Event, read, issued, took, refused, note}
+use Rattle.protocol.specs.Claims.{Persistent}
+use Rattle.floor.specs.State.{box0, station0, row0, readSlot0, writeSlot0, boxAt, stationAt, rowAt}
+use Rattle.floor.specs.declared.Phase.{Phase}
+use Rattle.floor.specs.declared.Phase.the-variants.{Idle, Reading, Writing, Decided, Gone}
+use Rattle.floor.specs.declared.Stage.{Stage}
+use Rattle.floor.specs.declared.Stage.the-variants.{Unissued, Waiting, Answered}
+use Rattle.floor.specs.declared.Station.{Station}
+use Rattle.floor.specs.declared.ReadSlot.{ReadSlot}
+use Rattle.floor.specs.declared.WriteSlot.{WriteSlot}
+use Rattle.floor.specs.declared.Row.{Row}
+use Rattle.floor.specs.declared.Floor.{Floor}
+use Rattle.floor.proofs.Keeps.{Lengths}
+use Rattle.floor.proofs.Stores.{set-all, set-in}
+
+-- What a history keeps besides reads and writes: a revision offered, or nothing.
+pub data Note : Type 0 where
+  offered : ℕ → Note
+  quiet : Note
+
+abbrev pub Happening : Type 0
+Happening = Event ℕ Note
+
+-- newest first, one for each step
+abbrev pub History : Type 0
+History = List (Event ℕ Note)
+
+-- the revisions offered so far
+abbrev pub Offered : History → ℕ → Type 0
+Offered l v = List·Memᴰ (note (offered v)) l
+
+pub offered-stays : Persistent Offered
+offered-stays e l v m = List·Memᴰ·tail m
+
+-- the boxes, as the theory sees them
+abbrev pub toBox : StorageBox → Box ℕ
+toBox x = record { readRank = x .register .read; writeRank = x .register .write; value = x .register .value }
+
+abbrev pub boxesOf : Floor → ℕ → Box ℕ
+boxesOf f b = toBox (boxAt f b)
+
+-- 1 more than the rank at which an event issues or takes a write; 0 for every other event
+abbrev pub writerOf : Happening → ℕ
+writerOf (read r b w v) = 0
+writerOf (issued r v) = suc r
+writerOf (took r b) = suc r
+writerOf (refused r b) = 0
+writerOf (note k) = 0
+
+-- nothing was written at the rank r
+abbrev pub Unwritten : History → ℕ → Type 0
+Unwritten l r = (e : Happening) → List·Memᴰ e l → ¬ (writerOf e ≡ suc r)
+
+pub unwritten-more : (l : History) (r : ℕ) (e : Happening) → ¬ (writerOf e ≡ suc r) → Unwritten l r → Unwritten (e ∷ l) r
+unwritten-more l r e d u x m q = elim (List·Memᴰ·cases-cons m) [ inl p ↦ d (ap writerOf (sym p) ∙ q) | inr o ↦ u x o q ]
+
+abbrev pub isAnswered : Stage → Bool
+isAnswered Unissued = false
+isAnswered Waiting = false
+isAnswered Answered = true
+
+abbrev pub isIssued : Stage → Bool
+isIssued Unissued = false
+isIssued Waiting = true
+isIssued Answered = true
+
+-- a write rank and a value, of a box or of its answer: a value is held exactly where a rank wrote it
+abbrev pub Paired : ℕ → ℕ → Type 0
+Paired w x = (w ≡ 0 → x ≡ 0) × (0 < w → 0 < x)
+
+-- The relation, part by part. Its parameters are values and not places of the floor, so that what a step leaves alone is handed on as
+-- it is. The reads of a row: what was received was answered, and each answer was given at that box.
+pub record ReadsShow (rank : ℕ) (reads : List ReadSlot) (readers : ℕ) (l : History) : Type 0 where
+  pub received : (b : ℕ) → bit readers b ≡ true → isAnswered (getD reads b readSlot0 .stage) ≡ true
+  pub answered : (b : ℕ) → isAnswered (getD reads b readSlot0 .stage) ≡ true → List·Memᴰ (read rank b (getD reads b readSlot0 .rank) (getD reads b readSlot0 .value)) l
+  pub paired : (b : ℕ) → Paired (getD reads b readSlot0 .rank) (getD reads b readSlot0 .value)
+
+-- The writes of a row: they were issued with the row's revision, and each answer was given at that box; no other write of this rank
+-- was taken.
+pub record WritesShow (rank written : ℕ) (writes : List WriteSlot) (writers : ℕ) (l : History) : Type 0 where
+  pub received : (b : ℕ) → bit writers b ≡ true → isAnswered (getD writes b writeSlot0 .stage) ≡ true
+  pub after-issue : (b : ℕ) → isIssued (getD writes b writeSlot0 .stage) ≡ true → 0 < written
+  pub issue : 0 < written → List·Memᴰ (issued rank written) l
+  pub unwritten : written ≡ 0 → Unwritten l rank
+  pub taken : (b : ℕ) → isAnswered (getD writes b writeSlot0 .stage) ≡ true → getD writes b writeSlot0 .taken ≡ true → List·Memᴰ (took rank b) l
+  pub refusal : (b : ℕ) → isAnswered (getD writes b writeSlot0 .stage) ≡ true → getD writes b writeSlot0 .taken ≡ false → List·Memᴰ (refused rank b) l
+  pub only : (b : ℕ) → List·Memᴰ (took rank b) l → (isAnswered (getD writes b writeSlot0 .stage) ≡ true) × (getD writes b writeSlot0 .taken ≡ true)
+
+pub record RowShows (w : Row) (l : History) : Type 0 where
+  pub positive : 0 < w .rank
+  pub place : w .rank % 16 ≡ w .station
+  pub revision : 0 < w .offer
+  pub offer : Offered l (w .offer)
+  pub reads : ReadsShow (w .rank) (w .reads) (w .readers) l
+  pub writes : WritesShow (w .rank) (w .written) (w .writes) (w .writers) l
+
+-- The station j that shows the decided revision v: where it reads or writes, it is in a row in use of its own.
+abbrev pub StationShows : ℕ → List Row → ℕ → ℕ → Phase → Type 0
+StationShows used rows j v Idle = Unit {0}
+StationShows used rows j v (Reading a) = (a < used) × (getD rows a row0 .station ≡ j) × (getD rows a row0 .written ≡ 0)
+StationShows used rows j v (Writing a) = (a < used) × (getD rows a row0 .station ≡ j) × (0 < getD rows a row0 .written)
+StationShows used rows j v (Decided a) = 0 < v
+StationShows used rows j v Gone = Unit {0}
+
+-- What a floor shows of its history. Rows have ranks of their own, none above its station's last round; above that round nothing was
+-- written yet.
+pub record Shows (f : Floor) (l : History) : Type 0 where
+  pub paired : (b : ℕ) → Paired (boxAt f b .register .write) (boxAt f b .register .value)
+  pub rows : (a : ℕ) → a < f .used → RowShows (rowAt f a) l
+  pub distinct : (a c : ℕ) → a < f .used → c < f .used → rowAt f a .rank ≡ rowAt f c .rank → a ≡ c
+  pub begun : (a : ℕ) → a < f .used → rowAt f a .rank / 16 ≤ stationAt f (rowAt f a .rank % 16) .last
+  pub unbegun : (r : ℕ) → stationAt f (r % 16) .last < r / 16 → Unwritten l r
+  pub stations : (j : ℕ) → StationShows (f .used) (f .rows) j (stationAt f j .decided) (stationAt f j .state)
+
+-- one event more
+module _ {l : History} (e : Happening) where
+  pub reads-more : {rank : ℕ} {reads : List ReadSlot} {readers : ℕ} → ReadsShow rank reads readers l → ReadsShow rank reads readers (e ∷ l)
+  reads-more s = record { received = s .received; answered = λ b h. List·Memᴰ·tail (s .answered b h); paired = s .paired }
+
+  pub writes-more : {rank written : ℕ} {writes : List WriteSlot} {writers : ℕ} → ¬ (writerOf e ≡ suc rank)
+      → WritesShow rank written writes writers l → WritesShow rank written writes writers (e ∷ l)
+  writes-more {rank} d s = record {
+    received = s .received;
+    after-issue = s .after-issue;
+    issue = λ h. List·Memᴰ·tail (s .issue h);
+    unwritten = λ h. unwritten-more l rank e d (s .unwritten h);
+    taken = λ b h t. List·Memᴰ·tail (s .taken b h t);
+    refusal = λ b h t. List·Memᴰ·tail (s .refusal b h t);
+    only = λ b m. elim (List·Memᴰ·cases-cons m) [ inl q ↦ absurd (d (ap writerOf (sym q))) | inr o ↦ s .only b o ];
+  }
+
+  pub row-more : {w : Row} → ¬ (writerOf e ≡ suc (w .rank)) → RowShows w l → RowShows w (e ∷ l)
+  row-more d s = record {
+    positive = s .positive;
+    place = s .place;
+    revision = s .revision;
+    offer = List·Memᴰ·tail (s .offer);
+    reads = reads-more (s .reads);
+    writes = writes-more d (s .writes);
+  }
+
+-- a row is stored; where the station j owned it, the new one is the station's too, and has written as much
+module _ (used k : ℕ) (rows : List Row) (a : ℕ) (w : Row) (j v : ℕ) (up : used ≤ k)
+    (same : a < used → getD rows a row0 .station ≡ j → (w .station ≡ j) × (w .written ≡ getD rows a row0 .written)) where
+  abbrev Kept : ℕ → Row → Type 0
+  Kept i x = i < used → getD rows i row0 .station ≡ j → (x .station ≡ j) × (x .written ≡ getD rows i row0 .written)
+
+  kept : (i : ℕ) → Kept i (getD (set rows a w) i row0)
+  kept = set-all row0 Kept rows a w (λ i h e. (e, refl)) same
+
+  pub station-kept-by : (p : Phase) → StationShows used rows j v p → StationShows k (set rows a w) j v p
+  station-kept-by Idle s = tt
+  station-kept-by (Reading i) s = let o = kept i (s .0) (s .1) in (omega (arith, s .0), o .0, o .1 ∙ s .2)
+  station-kept-by (Writing i) s = let o = kept i (s .0) (s .1) in (omega (arith, s .0), o .0, omega (arith, o .1, s .2))
+  station-kept-by (Decided i) s = s
+  station-kept-by Gone s = tt
+
+-- a station is stored
+pub stations-stored : (used : ℕ) (rows : List Row) (ss : List Station) (t : ℕ) (y : Station) → t < length ss
+    → ((j : ℕ) → ¬ (j ≡ t) → StationShows used rows j (getD ss j station0 .decided) (getD ss j station0 .state)) → StationShows used rows t (y .decided) (y .state)
+    → (j : ℕ) → StationShows used rows j (getD (set ss t y) j station0 .decided) (getD (set ss t y) j station0 .state)
+stations-stored used rows ss t y h = set-in station0 (λ (j : ℕ) (x : Station). StationShows used rows j (x .decided) (x .state)) ss t y h
+
+-- a station is replaced by one with the same last round
+pub last-stored : (ss : List Station) (t : ℕ) (y : Station) → y .last ≡ getD ss t station0 .last → (j : ℕ) → getD (set ss t y) j station0 .last ≡ getD ss j station0 .last
+last-stored ss t y e = set-all station0 (λ (j : ℕ) (x : Station). x .last ≡ getD ss j station0 .last) ss t y (λ j. refl) e
+
+-- The floor after an event, where boxes and stations become bs and ss and each station keeps its last round: what is left to show.
+module _ {f : Floor} {l : History} (s : Shows f l) (e : Happening) (bs : List StorageBox) (ss : List Station)
+    (paired : (b : ℕ) → Paired (getD bs b box0 .register .write) (getD bs b box0 .register .value))
+    (last : (j : ℕ) → getD ss j station0 .last ≡ stationAt f j .last) where
+  -- nothing is written, and the rows stay
+  pub shows-kept : writerOf e ≡ 0 → ((j : ℕ) → StationShows (f .used) (f .rows) j (getD ss j station0 .decided) (getD ss j station0 .state))
+      → Shows (record { n = f .n; m = f .m; used = f .used; boxes = bs; stations = ss; rows = f .rows }) (e ∷ l)
+  shows-kept silent stations = record {
+    paired = paired;
+    rows = λ a h. row-more e (λ q. omega arith) (s .rows a h);
+    distinct = s .distinct;
+    begun = λ a h. rw (last (rowAt f a .rank % 16)) (s .begun a h);
+    unbegun = λ r h. unwritten-more l r e (λ q. omega arith) (s .unbegun r (rw (last (r % 16)) at h));
+    stations = stations;
+  }
+
+  -- the row a is stored with its rank, and nothing is written at any other rank
+  module _ (y : Lengths f) (a : ℕ) (ha : a < f .used) (h64 : f .used ≤ 64) (w : Row) (rank : w .rank ≡ rowAt f a .rank)
+      (own : (r : ℕ) → writerOf e ≡ suc r → r ≡ rowAt f a .rank) where
+    rank-kept : (k : ℕ) → getD (set (f .rows) a w) k row0 .rank ≡ rowAt f k .rank
+    rank-kept = set-all row0 (λ (k : ℕ) (x : Row). x .rank ≡ rowAt f k .rank) (f .rows) a w (λ k. refl) rank
+
+    -- the rank of a row in use is begun
+    not-unbegun : (r : ℕ) → stationAt f (r % 16) .last < r / 16 → ¬ (writerOf e ≡ suc r)
+    not-unbegun r h q = omega (arith, subst (λ (k : ℕ). stationAt f (k % 16) .last < k / 16) (own r q) h, s .begun a ha)
+
+    pub shows-stored : RowShows w (e ∷ l) → ((j : ℕ) → StationShows (f .used) (set (f .rows) a w) j (getD ss j station0 .decided) (getD ss j station0 .state))
+        → Shows (record { n = f .n; m = f .m; used = f .used; boxes = bs; stations = ss; rows = set (f .rows) a w }) (e ∷ l)
+    shows-stored new stations = record {
+      paired = paired;
+      rows = set-in row0 (λ (k : ℕ) (x : Row). k < f .used → RowShows x (e ∷ l)) (f .rows) a w (omega (arith, y .rows))
+          (λ k p h. row-more e (λ q. p (s .distinct k a h ha (own (rowAt f k .rank) q))) (s .rows k h)) (λ h. new);
+      distinct = λ i j hi hj q. s .distinct i j hi hj (sym (rank-kept i) ∙ q ∙ rank-kept j);
+      begun = λ k h. rw (rank-kept k, last (rowAt f k .rank % 16)) (s .begun k h);
+      unbegun = λ r h. let o = rw (last (r % 16)) at h in unwritten-more l r e (not-unbegun r o) (s .unbegun r o);
+      stations = stations;
+    }

@@ -1,0 +1,16 @@
+pub mod History
+pub mod Serves
+pub mod Deliveries
+pub mod Issues
+pub mod Decisions
+pub mod Begins
+pub mod Reach
+pub mod Positions
+pub mod Safety
+pub mod Standing
+pub mod Consequences
+pub mod Lists
+pub mod Alone
+pub mod Demand
+pub mod Examples
+pub mod Played

@@ -1,0 +1,42 @@
+-- One list of steps behind another: the floors and what the steps say are those of the second list from the floor that the first left.
+use Prim.Native.Nat.{ℕ, zero, suc, _+_}
+use native.Mathlib.Nat.{zero-add, suc-add}
+use mathlib.Core.Path.{_≡_, refl, sym, ap, ap₂, _∙_}
+use mathlib.Core.List.{List, [], _∷_, _++_}
+use lib.ListN.{length, getD, length-append}
+use lib.Seq.{getD-append-add}
+use Rattle.floor.specs.Step.{stepOf}
+use Rattle.floor.specs.Runs.{after}
+use Rattle.floor.specs.declared.Floor.{Floor}
+use Rattle.agreement.specs.Words.{floorAt, floorLeft, saidAt}
+
+-- without the first step
+pub floor-shift : (f : Floor) (r : List ℕ) (l : List (List ℕ)) (i : ℕ) → floorAt f (r ∷ l) (suc i) ≡ floorAt (stepOf f r .floor) l i
+unfolding floorAt
+floor-shift f r l zero = refl
+floor-shift f r l (suc i) = ap (λ (g : Floor). stepOf g (getD l i []) .floor) (floor-shift f r l i)
+
+pub said-shift : (f : Floor) (r : List ℕ) (l : List (List ℕ)) (i : ℕ) → saidAt f (r ∷ l) (suc i) ≡ saidAt (stepOf f r .floor) l i
+said-shift f r l i = ap (λ (g : Floor). stepOf g (getD l i []) .outcome) (floor-shift f r l i)
+
+-- behind a list
+pub floor-behind : (f : Floor) (l k : List (List ℕ)) (i : ℕ) → floorAt f (l ++ k) (length l + i) ≡ floorAt (floorLeft f l) k i
+unfolding floorAt
+floor-behind f [] k i = ap (floorAt f k) (zero-add i)
+floor-behind f (r ∷ l) k i =
+    ap (floorAt f (r ∷ (l ++ k))) (suc-add (length l) i)
+    ∙ floor-shift f r (l ++ k) (length l + i)
+    ∙ floor-behind (stepOf f r .floor) l k i
+    ∙ ap (λ (g : Floor). floorAt g k i) (sym (floor-shift f r l (length l)))
+
+pub said-behind : (f : Floor) (l k : List (List ℕ)) (i : ℕ) → saidAt f (l ++ k) (length l + i) ≡ saidAt (floorLeft f l) k i
+said-behind f l k i = ap₂ (λ (g : Floor) (r : List ℕ). stepOf g r .outcome) (floor-behind f l k i) (getD-append-add l k i [])
+
+pub left-behind : (f : Floor) (l k : List (List ℕ)) → floorLeft f (l ++ k) ≡ floorLeft (floorLeft f l) k
+left-behind f l k = ap (floorAt f (l ++ k)) (length-append l k) ∙ floor-behind f l k (length k)
+
+-- the floor that a list left, as the fold over its records
+pub left-after : (f : Floor) (l : List (List ℕ)) → floorLeft f l ≡ after f l
+unfolding floorAt after
+left-after f [] = refl
+left-after f (r ∷ l) = floor-shift f r l (length l) ∙ left-after (stepOf f r .floor) l

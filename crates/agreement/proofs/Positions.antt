@@ -1,0 +1,144 @@
+-- The run by positions: the history before each, the attempt that a row in use belongs to, and what each decision and abort tells.
+use Prim.Native.Nat.{ℕ, zero, suc, _≤_, _<_}
+use native.Mathlib.Nat.{eq-or-lt-of-le}
+use native.Mathlib.Decide.{decLt}
+use native.Mathlib.Omega.{arith}
+use mathlib.Core.Path.{_≡_, refl, sym, ap, subst, _∙_}
+use mathlib.Core.Logic.{_⊎_, inl, inr}
+use mathlib.Core.List.{List, [], _∷_, List·Memᴰ, List·Memᴰ·tail, List·Memᴰ·cases-cons, List·Memᴰ·not-nil}
+use lib.ListN.{getD}
+use Rattle.floor.specs.State.{rowAt}
+use Rattle.floor.specs.Rows.{newRow}
+use Rattle.floor.specs.Step.{stepOf}
+use Rattle.floor.specs.declared.Row.{Row}
+use Rattle.floor.specs.declared.Floor.{Floor}
+use Rattle.floor.specs.declared.Stepped.{Stepped}
+use Rattle.floor.specs.declared.Command.{Command}
+use Rattle.floor.specs.declared.Outcome.{Outcome}
+use Rattle.floor.specs.declared.Outcome.the-variants as said
+use Rattle.floor.proofs.View.{StepView, turned, began, read-served, write-served, read-heard, issued, write-heard, decided, aborted, stopped, left, step-view}
+use Rattle.floor.proofs.Keeps.{step-lengths, step-sizes}
+use Rattle.floor.proofs.RowLaws.{apply-begun, row-same}
+use Rattle.floor.proofs.Outcomes.{Meaning, step-means}
+use Rattle.agreement.specs.Words.{Before, commandAt, floorAt, saidAt, Attempt, attemptRank, Named}
+use Rattle.agreement.proofs.History.{Happening, History}
+use Rattle.agreement.proofs.Reach.{eventOf, Reached, reached-next, Cause, cause, New, new-reached}
+
+-- a number below suc k is k or below k
+pub up-to : {c k : ℕ} → c < suc k → (c ≡ k) ⊎ (c < k)
+up-to h = eq-or-lt-of-le (omega arith)
+
+-- what held before i, and what holds at i, held before suc i
+pub later : {P : ℕ → Type 0} {i : ℕ} → Before P i → Before P (suc i)
+later x = record { at = x .at; earlier = omega (arith, x .earlier); holds = x .holds }
+
+pub now : {P : ℕ → Type 0} (i : ℕ) → P i → Before P (suc i)
+now i p = record { at = i; earlier = omega arith; holds = p }
+
+-- a row that is in use after a step and was not before was begun by it
+begun-then : {f : Floor} {c : Command} {s : Stepped} → StepView f c s → (a : ℕ) → ¬ (a < f .used) → a < s .floor .used → s .outcome ≡ said.Begun a
+begun-then (turned k t) a h u = absurd (h u)
+begun-then {f} (began z d) a h u = let e : f .used ≡ a = omega arith in ap said.Begun e
+begun-then (read-served z d) a h u = absurd (h u)
+begun-then (write-served z d) a h u = absurd (h u)
+begun-then (read-heard z d q) a h u = absurd (h u)
+begun-then (issued z d r q) a h u = absurd (h u)
+begun-then (write-heard z d q) a h u = absurd (h u)
+begun-then (decided z d r q t) a h u = absurd (h u)
+begun-then (aborted z d r q t) a h u = absurd (h u)
+begun-then (stopped z d) a h u = absurd (h u)
+begun-then (left z d) a h u = absurd (h u)
+
+module _ (f : Floor) (l : List (List ℕ)) where
+  view-at : (i : ℕ) → StepView (floorAt f l i) (commandAt l i) (stepOf (floorAt f l i) (getD l i []))
+  view-at i = step-view (floorAt f l i) (getD l i [])
+
+  eventAt : ℕ → Happening
+  eventAt i = eventOf (view-at i)
+
+  -- what happened before the step at i
+  pub history : ℕ → History
+  history zero = []
+  history (suc i) = eventAt i ∷ history i
+
+  happened : (e : Happening) (i : ℕ) → List·Memᴰ e (history i) → Before (λ k. e ≡ eventAt k) i
+  unfolding history
+  happened e zero m = absurd (List·Memᴰ·not-nil m)
+  happened e (suc i) m = elim (List·Memᴰ·cases-cons m) [ inl q ↦ now i q | inr o ↦ later (happened e i o) ]
+
+  -- what an event before i came of
+  pub caused : (e : Happening) (i : ℕ) → List·Memᴰ e (history i) → Before (λ k. Cause (floorAt f l k) (commandAt l k) (saidAt f l k) e) i
+  unfolding eventAt
+  caused e i m =
+      let x = happened e i m in
+      let k = x .at in
+      record { at = k; earlier = x .earlier; holds = subst (Cause (floorAt f l k) (commandAt l k) (saidAt f l k)) (sym (x .holds)) (cause (view-at k)) }
+
+  -- what happened before i happened before every later position
+  pub still-happened : {e : Happening} (i t : ℕ) → i ≤ t → List·Memᴰ e (history i) → List·Memᴰ e (history t)
+  unfolding history
+  still-happened {e} i zero h m = let q : i ≡ 0 = omega arith in subst (λ (k : ℕ). List·Memᴰ e (history k)) q m
+  still-happened {e} i (suc t) h m = elim (eq-or-lt-of-le h) [
+    | inl q ↦ subst (λ (k : ℕ). List·Memᴰ e (history k)) q m
+    | inr o ↦ List·Memᴰ·tail (still-happened i t (omega arith) m)
+  ]
+
+  -- the number of boxes stays
+  pub size-at : (i : ℕ) → floorAt f l i .n ≡ f .n
+  unfolding floorAt
+  size-at zero = refl
+  size-at (suc i) = step-sizes (floorAt f l i) (getD l i []) .boxes ∙ size-at i
+
+  named-more : {x : Attempt f l} {i : ℕ} → ¬ (saidAt f l i ≡ said.Begun (x .number)) → Named f l x i → Named f l x (suc i)
+  named-more {x} {i} d n = record {
+    earlier = omega (arith, n .earlier);
+    last = λ k h u e. elim (up-to u) [ inl q ↦ d (ap (saidAt f l) (sym q) ∙ e) | inr q ↦ n .last k h q e ];
+  }
+
+  -- the row a in use before i is that of an attempt
+  pub record RowOf (i a : ℕ) : Type 0 where
+    pub attempt : Attempt f l
+    pub number : attempt .number ≡ a
+    pub named : Named f l attempt i
+    pub station : attempt .station ≡ rowAt (floorAt f l i) a .station
+    pub rank : attemptRank f l attempt ≡ rowAt (floorAt f l i) a .rank
+
+  module _ (new : New f) where
+    pub reached-at : (i : ℕ) → Reached (floorAt f l i) (history i)
+    unfolding floorAt history eventAt
+    reached-at zero = new-reached new
+    reached-at (suc i) =
+        reached-next (reached-at i) (view-at i) (step-lengths (floorAt f l i) (getD l i []) (reached-at i .lengths)) (step-sizes (floorAt f l i) (getD l i []) .boxes)
+
+    -- what it means that the step at i said o
+    pub means-at : (i : ℕ) (o : Outcome) → saidAt f l i ≡ o → Meaning (floorAt f l i) (commandAt l i) (floorAt f l (suc i)) o
+    unfolding floorAt
+    means-at i o e =
+        subst (Meaning (floorAt f l i) (commandAt l i) (stepOf (floorAt f l i) (getD l i []) .floor)) e (step-means (floorAt f l i) (getD l i []) (reached-at i .lengths))
+
+    pub row-at : (i a : ℕ) → a < floorAt f l i .used → RowOf i a
+    unfolding floorAt stepOf newRow
+    row-at zero a h = absurd (omega (arith, new .unused))
+    row-at (suc i) a h = elim (decLt a (floorAt f l i .used)) [
+      | yes u ↦ (
+          let o = row-at i a u in
+          let k = row-same (floorAt f l i) (commandAt l i) a u in
+          record {
+            attempt = o .attempt;
+            number = o .number;
+            named = named-more (λ e. omega (arith, apply-begun (floorAt f l i) (commandAt l i) (o .attempt .number) e, o .number)) (o .named);
+            station = o .station ∙ sym (k .station);
+            rank = o .rank ∙ sym (k .rank);
+          })
+      | no u ↦ (
+          let e = begun-then (view-at i) a u h in
+          let b = means-at i (said.Begun a) e in
+          let r = ap (rowAt (floorAt f l (suc i))) (b .next) ∙ b .row in
+          record {
+            attempt = record { at = i; station = b .station; round = b .round; offer = b .offer; number = a; asked = b .command; begun = e };
+            number = refl;
+            named = record { earlier = omega arith; last = λ k p q. absurd (omega arith) };
+            station = sym (ap (λ (w : Row). w .station) r);
+            rank = sym (ap (λ (w : Row). w .rank) r);
+          })
+    ]

@@ -1,0 +1,194 @@
+-- Demand 3 without the solo finish: agreement, validity, aborts, and what the floor shows.
+use Prim.Native.Nat.{ℕ, zero, suc, _+_, _≤_, _<_}
+use native.Mathlib.Decide.{decLt}
+use native.Mathlib.Omega.{arith}
+use mathlib.Core.Path.{_≡_, refl, sym, ap, subst, _∙_}
+use mathlib.Core.Logic.{_⊎_, inl, inr}
+use mathlib.Core.List.{List, List·Memᴰ}
+use Rattle.protocol.specs.Quorum.{Majority}
+use Rattle.protocol.specs.View.{Chosen}
+use Rattle.protocol.specs.Trace.{read, took, note, Served, by-read, by-write}
+use Rattle.protocol.proofs.QuorumLaws.{majority-map}
+use Rattle.protocol.proofs.Runs.{outranked}
+use Rattle.protocol.proofs.Instances.{consensus}
+use Rattle.floor.specs.State.{stationAt, rowAt}
+use Rattle.floor.specs.Step.{stepOf}
+use Rattle.floor.specs.declared.Phase.the-variants.{Decided}
+use Rattle.floor.specs.declared.Station.{Station}
+use Rattle.floor.specs.declared.Floor.{Floor}
+use Rattle.floor.specs.declared.Command.the-variants.{ServeRead, ServeWrite, DeliverWrite}
+use Rattle.floor.specs.declared.Outcome.the-variants as said
+use Rattle.floor.proofs.StationLaws.{decided-from}
+use Rattle.agreement.specs.Words.{Before, commandAt, floorAt, saidAt, Attempt, Named, OfferedAt, ServedAt, DecidesAt, OutrankedAt, shownAt}
+use Rattle.agreement.specs.Demand.{firstFloor, Safety}
+use Rattle.agreement.proofs.History.{offered, Offered}
+use Rattle.agreement.proofs.Deliveries.{viewOf, owner-writes}
+use Rattle.agreement.proofs.Decisions.{decision-chosen, abort-refused}
+use Rattle.agreement.proofs.Reach.{reached-inv, Serving, New, new-floor}
+use Rattle.agreement.proofs.Positions.{up-to, later, now, history, caused, still-happened, size-at, reached-at, means-at, row-at}
+
+module _ (f : Floor) (l : List (List ℕ)) where
+  -- one number names one attempt
+  one-attempt : {i : ℕ} (x y : Attempt f l) → Named f l x i → Named f l y i → x .number ≡ y .number → x .station ≡ y .station
+  one-attempt x y n m e = cc (x .asked, y .asked, ap (commandAt l) at)
+    where
+      at : x .at ≡ y .at
+      at = elim (decLt (x .at) (y .at)) [
+        | yes h ↦ absurd (n .last (y .at) h (m .earlier) (y .begun ∙ ap said.Begun (sym e)))
+        | no h ↦ elim (decLt (y .at) (x .at)) [ yes k ↦ absurd (m .last (x .at) k (n .earlier) (x .begun ∙ ap said.Begun e)) | no k ↦ omega arith ]
+      ]
+
+  -- a revision is chosen before the step at i
+  abbrev ChosenAt : ℕ → ℕ → ℕ → Type 0
+  ChosenAt r v i = Chosen (floorAt f l i .n) (viewOf (floorAt f l i) (history f l i)) r v
+
+  -- .. and before every later one
+  chosen-later : (i t r v : ℕ) → i ≤ t → ChosenAt r v i → ChosenAt r v t
+  chosen-later i t r v h c = record {
+    issued = still-happened f l i t h (c .issued);
+    taken = subst (λ (n : ℕ). Majority n (λ b. List·Memᴰ (took r b) (history f l t))) (size-at f l i ∙ sym (size-at f l t))
+        (majority-map (λ b m. still-happened f l i t h m) (c .taken));
+  }
+
+  module _ (new : New f) where
+    -- a decision is of a revision that was chosen, and no revision is 0
+    chosen-at : (i v : ℕ) → saidAt f l i ≡ said.Decided v → (r : ℕ) × ChosenAt r v i
+    chosen-at i v e =
+        let m = means-at f l new i (said.Decided v) e in
+        let c = decision-chosen (reached-at f l new i .shows) (m .attempt) (m .box) (m .answer .may) (m .answer .writing) (m .answer .quorum) (m .taken) in
+        (rowAt (floorAt f l i) (m .attempt) .rank, subst (λ (u : ℕ). ChosenAt (rowAt (floorAt f l i) (m .attempt) .rank) u i) (sym (m .written)) c)
+
+    decided-positive : (i v : ℕ) → saidAt f l i ≡ said.Decided v → 0 < v
+    decided-positive i v e =
+        let m = means-at f l new i (said.Decided v) e in
+        omega (arith, m .written, owner-writes (reached-at f l new i .shows) (m .attempt) (m .answer .may .used) (m .answer .writing))
+
+    pub agreement : (i j u v : ℕ) → saidAt f l i ≡ said.Decided u → saidAt f l j ≡ said.Decided v → u ≡ v
+    agreement i j u v e g =
+        consensus (floorAt f l (i + j) .n) (reached-inv (reached-at f l new (i + j)))
+        (chosen-later i (i + j) _ u (omega arith) (chosen-at i u e .1))
+        (chosen-later j (i + j) _ v (omega arith) (chosen-at j v g .1))
+
+    validity : (i v : ℕ) → saidAt f l i ≡ said.Decided v → Before (OfferedAt f l v) i
+    validity i v e =
+        let o = reached-inv (reached-at f l new i) .offered _ v (chosen-at i v e .1 .issued) in
+        let x = caused f l (note (offered v)) i o in
+        let y = x .holds in
+        record {
+          at = x .at;
+          earlier = x .earlier;
+          holds = record {
+            attempt = record { at = x .at; station = y .station; round = y .round; offer = v; number = y .number; asked = y .asked; begun = y .accepted };
+            begun = refl;
+            offer = refl;
+          };
+        }
+
+    served-at : (k r b : ℕ) → Serving (floorAt f l k) (commandAt l k) (saidAt f l k) r b → ServedAt f l r b k
+    served-at k r b x = let o = row-at f l new k (x .attempt) (x .used) in record {
+      attempt = o .attempt;
+      named = o .named;
+      rank = o .rank ∙ x .rank;
+      asked = subst (λ (a : ℕ). (commandAt l k ≡ ServeRead a b) ⊎ (commandAt l k ≡ ServeWrite a b)) (sym (o .number)) (x .asked);
+      accepted = x .accepted ∙ ap said.Served (sym (o .number));
+    }
+
+    served-before : (i r b : ℕ) → Served (history f l i) r b → Before (ServedAt f l r b) i
+    served-before i r b (by-read {w = w} {v = v} m) =
+        let x = caused f l (read r b w v) i m in record { at = x .at; earlier = x .earlier; holds = served-at (x .at) r b (x .holds) }
+    served-before i r b (by-write m) =
+        let x = caused f l (took r b) i m in record { at = x .at; earlier = x .earlier; holds = served-at (x .at) r b (x .holds) }
+
+    abort : (i a : ℕ) → saidAt f l i ≡ said.Aborted a → OutrankedAt f l i
+    abort i a e =
+        let m = means-at f l new i (said.Aborted a) e in
+        let o = row-at f l new i a (m .answer .may .used) in
+        let k = reached-at f l new i in
+        let c = abort-refused (k .shows) a (m .box) (m .answer .may) (m .taken) in
+        let y = outranked (floorAt f l i .n) _≡_ Offered (k .run) (rowAt (floorAt f l i) a .rank) (c .0) (k .shows .rows a (m .answer .may .used) .positive) (c .1) (c .2) in
+        record {
+          attempt = o .attempt;
+          aborts = record {
+            named = o .named;
+            box = m .box;
+            asked = m .answer .command ∙ ap (λ (x : ℕ). DeliverWrite x (m .box)) (sym (o .number));
+            accepted = e ∙ ap said.Aborted (sym (o .number));
+          };
+          rank = y .rank;
+          box = c .0;
+          higher = omega (arith, y .higher, o .rank);
+          served = served-before i (y .rank) (c .0) (y .served);
+        }
+
+    -- the delivery that says decided, of an attempt whose row is the station's
+    pub decides-at : (k s v a b : ℕ) → commandAt l k ≡ DeliverWrite a b → a < floorAt f l k .used → rowAt (floorAt f l k) a .station ≡ s → saidAt f l k ≡ said.Decided v
+        → DecidesAt f l s v k
+    decides-at k s v a b c u q e = let o = row-at f l new k a u in record {
+      attempt = o .attempt;
+      named = o .named;
+      station = o .station ∙ q;
+      box = b;
+      asked = c ∙ ap (λ (x : ℕ). DeliverWrite x b) (sym (o .number));
+      accepted = e;
+    }
+
+    -- every decision is that of a station
+    pub decision-of : (i v : ℕ) → saidAt f l i ≡ said.Decided v → (s : ℕ) × DecidesAt f l s v i
+    decision-of i v e =
+        let m = means-at f l new i (said.Decided v) e in
+        (rowAt (floorAt f l i) (m .attempt) .station, decides-at i _ v (m .attempt) (m .box) (m .answer .command) (m .answer .may .used) refl e)
+
+    pub shown-decided : (s i : ℕ) → 0 < shownAt f l s i → Before (DecidesAt f l s (shownAt f l s i)) i
+    unfolding floorAt stepOf
+    shown-decided s zero h = absurd (omega (arith, ap (λ (x : Station). x .decided) (new .stations s)))
+    shown-decided s (suc i) h = elim (decided-from (floorAt f l i) (commandAt l i) s) [
+      | inl e ↦ subst (λ (v : ℕ). Before (DecidesAt f l s v) (suc i)) (sym e) (later (shown-decided s i (omega arith)))
+      | inr d ↦ now i (decides-at i s _ (d .attempt) (d .box) (d .command) (d .used) (d .owner) (d .outcome))
+    ]
+
+    -- the step by which the station s decides v: its row, and the station after it
+    pub record Decider (s v i : ℕ) : Type 0 where
+      pub row : ℕ
+      pub used : row < floorAt f l i .used
+      pub owner : rowAt (floorAt f l i) row .station ≡ s
+      pub settled : stationAt (floorAt f l (suc i)) s ≡ record { state = Decided row; last = stationAt (floorAt f l i) s .last; decided = v }
+
+    pub decider-at : (s v i : ℕ) → DecidesAt f l s v i → Decider s v i
+    decider-at s v i d =
+        let m = means-at f l new i (said.Decided v) (d .accepted) in
+        let o = row-at f l new i (m .attempt) (m .answer .may .used) in
+        let n : m .attempt ≡ d .attempt .number = cc (m .answer .command, d .asked) in
+        let q = sym (o .station) ∙ one-attempt (o .attempt) (d .attempt) (o .named) (d .named) (o .number ∙ n) ∙ d .station in
+        record {
+          row = m .attempt;
+          used = m .answer .may .used;
+          owner = q;
+          settled = subst (λ (j : ℕ). stationAt (floorAt f l (suc i)) j ≡ record { state = Decided (m .attempt); last = stationAt (floorAt f l i) j .last; decided = v }) q
+              (m .owner ∙ ap (λ (u : ℕ). record { state = Decided (m .attempt); last = stationAt (floorAt f l i) (rowAt (floorAt f l i) (m .attempt) .station) .last; decided = u }) (sym (m .written)));
+        }
+
+    -- a station that decided shows a revision at once, and from then on
+    shown-now : (s v i : ℕ) → DecidesAt f l s v i → shownAt f l s (suc i) ≡ v
+    shown-now s v i d = ap (λ (x : Station). x .decided) (decider-at s v i d .settled)
+
+    pub shown-still : (s v k i : ℕ) → DecidesAt f l s v k → k < i → 0 < shownAt f l s i
+    unfolding floorAt stepOf
+    shown-still s v k zero d h = absurd (omega arith)
+    shown-still s v k (suc i) d h = elim (up-to h) [
+      | inl q ↦ omega (arith, shown-now s v i (subst (DecidesAt f l s v) q d), decided-positive k v (d .accepted))
+      | inr q ↦ elim (decided-from (floorAt f l i) (commandAt l i) s) [
+        | inl e ↦ omega (arith, shown-still s v k i d q)
+        | inr x ↦ decided-positive i _ (x .outcome)
+      ]
+    ]
+
+pub safety : (n m : ℕ) (l : List (List ℕ)) → Safety n m l
+safety n m l = let f = firstFloor n m in let new = new-floor n m in record {
+  agreement = agreement f l new;
+  validity = validity f l new;
+  abort = abort f l new;
+  shown = λ s i. record {
+    decided = shown-decided f l new s i;
+    none = λ e v x. omega (arith, shown-still f l new s v (x .at) i (x .holds) (x .earlier));
+  };
+}

@@ -1,0 +1,145 @@
+-- What the floor before a position is like, read off the list: rows in use, stopped boxes, and what a solo finish asks of its
+-- station.
+use Prim.Native.Nat.{ℕ, zero, suc, _<_}
+use native.Mathlib.Omega.{arith}
+use mathlib.Core.Path.{_≡_, refl, sym, ap, subst, _∙_}
+use mathlib.Core.Logic.{_⊎_, inl, inr}
+use mathlib.Core.Bool.{true}
+use mathlib.Core.List.{List, []}
+use lib.ListN.{getD}
+use borrow.Author.Tests.{eqb-true, eq-eqb}
+use Rattle.base.specs.Numbers.{rankOf}
+use Rattle.register.specs.declared.StorageBox.{StorageBox}
+use Rattle.protocol.specs.Quorum.{indicator, count}
+use Rattle.floor.specs.State.{boxAt, stationAt, rowAt, isGone}
+use Rattle.floor.specs.Sound.{Sound}
+use Rattle.floor.specs.Step.{stepOf}
+use Rattle.floor.specs.declared.Phase.{Phase}
+use Rattle.floor.specs.declared.Phase.the-variants.{Idle, Reading, Writing, Decided, Gone}
+use Rattle.floor.specs.declared.Station.{Station}
+use Rattle.floor.specs.declared.Floor.{Floor}
+use Rattle.floor.specs.declared.Outcome.{Outcome}
+use Rattle.floor.specs.declared.Outcome.the-variants as said
+use Rattle.floor.proofs.Standings.{clash}
+use Rattle.floor.proofs.Keeps.{step-keeps, step-sizes}
+use Rattle.floor.proofs.RowLaws.{begins, apply-used}
+use Rattle.floor.proofs.BoxLaws.{stopped-stays, stopped-from}
+use Rattle.floor.proofs.StationLaws.{isIn, gone-from, active-from}
+use Rattle.agreement.specs.Words.{Before, commandAt, isBegun, floorAt, saidAt, Attempt, Named, AbortsAt, IdleAt, attemptsBefore, RoundLeft}
+use Rattle.agreement.proofs.History.{History, StationShows, Shows}
+use Rattle.agreement.proofs.Reach.{New}
+use Rattle.agreement.proofs.Positions.{up-to, later, now, reached-at, means-at, row-at}
+use Rattle.agreement.proofs.Safety.{shown-decided}
+
+begins-one : (o : Outcome) → begins o ≡ indicator (isBegun o)
+begins-one (said.Begun a) = refl
+begins-one (said.Served a) = refl
+begins-one (said.Received a) = refl
+begins-one (said.Aborted a) = refl
+begins-one (said.WriteIssued v) = refl
+begins-one (said.Decided v) = refl
+begins-one (said.Stopped b) = refl
+begins-one (said.Gone s) = refl
+begins-one (said.Refused k) = refl
+
+-- a station that reads or writes is in a row of its own
+own-row : {f : Floor} {l : History} → Shows f l → (j a : ℕ) → isIn (stationAt f j .state) a ≡ true → (a < f .used) × (rowAt f a .station ≡ j)
+own-row {f} s j a = go (stationAt f j .state) (s .stations j)
+  where
+    go : (p : Phase) → StationShows (f .used) (f .rows) j (stationAt f j .decided) p → isIn p a ≡ true → (a < f .used) × (rowAt f a .station ≡ j)
+    go Idle q e = clash e refl
+    go (Reading x) q e = subst (λ (k : ℕ). (k < f .used) × (rowAt f k .station ≡ j)) (eqb-true x a e) (q .0, q .1)
+    go (Writing x) q e = subst (λ (k : ℕ). (k < f .used) × (rowAt f k .station ≡ j)) (eqb-true x a e) (q .0, q .1)
+    go (Decided x) q e = clash e refl
+    go Gone q e = clash e refl
+
+module _ (f : Floor) (l : List (List ℕ)) (new : New f) where
+  -- the number of stations stays, and a sound floor stays sound
+  pub stations-at : (i : ℕ) → floorAt f l i .m ≡ f .m
+  unfolding floorAt
+  stations-at zero = refl
+  stations-at (suc i) = step-sizes (floorAt f l i) (getD l i []) .stations ∙ stations-at i
+
+  pub sound-at : Sound f → (i : ℕ) → Sound (floorAt f l i)
+  unfolding floorAt
+  sound-at z zero = z
+  sound-at z (suc i) = step-keeps (floorAt f l i) (getD l i []) (sound-at z i)
+
+  -- as many rows are in use as begins were accepted
+  pub used-at : (i : ℕ) → floorAt f l i .used ≡ attemptsBefore f l i
+  unfolding floorAt stepOf count
+  used-at zero = new .unused
+  used-at (suc i) = omega (arith, apply-used (floorAt f l i) (commandAt l i), begins-one (saidAt f l i), used-at i)
+
+  -- a box is stopped exactly where an accepted step stopped it
+  pub stopped-before : (b i : ℕ) → boxAt (floorAt f l i) b .stopped ≡ true → Before (λ k. saidAt f l k ≡ said.Stopped b) i
+  unfolding floorAt stepOf
+  stopped-before b zero e = clash e (ap (λ (x : StorageBox). x .stopped) (new .boxes b))
+  stopped-before b (suc i) e = elim (stopped-from (floorAt f l i) (commandAt l i) b e) [ inl o ↦ later (stopped-before b i o) | inr o ↦ now i o ]
+
+  stopped-still : (b i : ℕ) → boxAt (floorAt f l i) b .stopped ≡ true → boxAt (floorAt f l (suc i)) b .stopped ≡ true
+  unfolding floorAt stepOf
+  stopped-still b i e = ap (λ (x : StorageBox). x .stopped) (stopped-stays (floorAt f l i) (commandAt l i) b e) ∙ e
+
+  pub stopped-since : (b i : ℕ) → Before (λ k. saidAt f l k ≡ said.Stopped b) i → boxAt (floorAt f l i) b .stopped ≡ true
+  stopped-since b zero x = absurd (omega (arith, x .earlier))
+  stopped-since b (suc i) x = elim (up-to (x .earlier)) [
+    | inl q ↦ ap (λ (y : StorageBox). y .stopped) (means-at f l new i (said.Stopped b) (ap (saidAt f l) (sym q) ∙ x .holds) .storage)
+    | inr q ↦ stopped-still b i (stopped-since b i (record { at = x .at; earlier = q; holds = x .holds }))
+  ]
+
+  -- a station is gone only where an accepted step said so
+  gone-before : (s i : ℕ) → isGone (stationAt (floorAt f l i) s .state) ≡ true → Before (λ k. saidAt f l k ≡ said.Gone s) i
+  unfolding floorAt stepOf
+  gone-before s zero e = clash e (ap (λ (x : Station). isGone (x .state)) (new .stations s))
+  gone-before s (suc i) e = elim (gone-from (floorAt f l i) (commandAt l i) s e) [ inl o ↦ later (gone-before s i o) | inr o ↦ now i o ]
+
+  -- a station that is in an attempt after the step at i was in it before, and the step did not abort it; or the step began it
+  still-in : (j a i : ℕ) → isIn (stationAt (floorAt f l (suc i)) j .state) a ≡ true
+      → ((isIn (stationAt (floorAt f l i) j .state) a ≡ true) × (¬ (saidAt f l i ≡ said.Aborted a))) ⊎ (saidAt f l i ≡ said.Begun a)
+  unfolding floorAt stepOf
+  still-in j a i e = elim (active-from (floorAt f l i) (commandAt l i) j a e) [
+    | inl o ↦ inl (
+      o,
+      λ q.
+          let own = own-row (reached-at f l new i .shows) j a o .1 in
+          clash e (ap (λ (k : ℕ). isIn (stationAt (floorAt f l (suc i)) k .state) a) (sym own) ∙ ap (λ (x : Station). isIn (x .state) a) (means-at f l new i (said.Aborted a) q .owner)),
+    )
+    | inr o ↦ inr o
+  ]
+
+  -- an attempt that its station is in has not aborted
+  not-aborted : (j i k : ℕ) (x : Attempt f l) → isIn (stationAt (floorAt f l i) j .state) (x .number) ≡ true → Named f l x i → k < i → ¬ AbortsAt f l x k
+  not-aborted j zero k x e n h b = omega arith
+  not-aborted j (suc i) k x e n h b = elim (still-in j (x .number) i e) [
+    | inl o ↦ elim (up-to h) [
+      | inl q ↦ o .1 (ap (saidAt f l) (sym q) ∙ b .accepted)
+      | inr q ↦ not-aborted j i k x (o .0) (record { earlier = omega (arith, b .named .earlier); last = λ t u v. n .last t u (omega arith) }) q b
+    ]
+    | inr o ↦ n .last i (omega (arith, b .named .earlier)) (omega arith) o
+  ]
+
+  -- a station that is idle in the words of the list is idle on the floor
+  module _ (s i : ℕ) (idle : IdleAt f l s i) where
+    in-none : (a : ℕ) → ¬ (isIn (stationAt (floorAt f l i) s .state) a ≡ true)
+    in-none a e =
+        let own = own-row (reached-at f l new i .shows) s a e in
+        let o = row-at f l new i a (own .0) in
+        let b = idle .aborted (o .attempt) (o .named .earlier) (o .station ∙ own .1) in
+        not-aborted s i (b .at) (o .attempt) (ap (isIn (stationAt (floorAt f l i) s .state)) (o .number) ∙ e) (o .named) (b .earlier) (b .holds)
+
+    idle-as : (p : Phase) → stationAt (floorAt f l i) s .state ≡ p → p ≡ Idle
+    idle-as Idle e = refl
+    idle-as (Reading a) e = absurd (in-none a (ap (λ (p : Phase). isIn p a) e ∙ eq-eqb a a refl))
+    idle-as (Writing a) e = absurd (in-none a (ap (λ (p : Phase). isIn p a) e ∙ eq-eqb a a refl))
+    idle-as (Decided a) e =
+        absurd (idle .undecided _ (shown-decided f l new s i
+        (subst (StationShows (floorAt f l i .used) (floorAt f l i .rows) s (stationAt (floorAt f l i) s .decided)) e (reached-at f l new i .shows .stations s))))
+    idle-as Gone e = absurd (idle .here (gone-before s i (ap isGone e)))
+
+    pub idle-state : stationAt (floorAt f l i) s .state ≡ Idle
+    idle-state = idle-as (stationAt (floorAt f l i) s .state) refl
+
+  -- a round left outranks every row in use
+  pub round-outranks : (s i : ℕ) (r : RoundLeft f l s i) (a : ℕ) → a < floorAt f l i .used → rowAt (floorAt f l i) a .rank < rankOf (r .round) s
+  round-outranks s i r a h = let o = row-at f l new i a h in omega (arith, r .outranks (o .attempt) (o .named .earlier), o .rank)

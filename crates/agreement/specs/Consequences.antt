@@ -1,0 +1,23 @@
+-- What a reader of the floor may rely on besides. The proof is `consequences` in proofs/Consequences.
+use Prim.Native.Nat.{ℕ, _<_}
+use mathlib.Core.Path.{_≡_}
+use mathlib.Core.Logic.{_⊎_}
+use mathlib.Core.Bool.{false}
+use mathlib.Core.List.{List}
+use lib.ListN.{length}
+use Rattle.floor.specs.Step.{isRefused}
+use Rattle.floor.specs.declared.Command.the-variants.{Begin}
+use Rattle.floor.specs.declared.Outcome.the-variants as said
+use Rattle.agreement.specs.Words.{commandAt, saidAt, DecidesAt, shownAt}
+use Rattle.agreement.specs.Demand.{firstFloor}
+
+pub record Consequences (n m : ℕ) (l : List (List ℕ)) : Type 0 where
+  -- nothing is accepted behind the end of the list
+  pub inside : (i : ℕ) → isRefused (saidAt (firstFloor n m) l i) ≡ false → i < length l
+  -- what is decided is decided by a station
+  pub station : (i v : ℕ) → saidAt (firstFloor n m) l i ≡ said.Decided v → (s : ℕ) × (s < firstFloor n m .m) × DecidesAt (firstFloor n m) l s v i
+  -- the decided revision that the floor shows for a station never changes
+  pub stays : (s v k i : ℕ) → DecidesAt (firstFloor n m) l s v k → k < i → shownAt (firstFloor n m) l s i ≡ v
+  -- "each station keeps its own, and begins nothing after deciding": such a begin is refused with 9 or 10
+  pub over : (s v k i round u : ℕ) → DecidesAt (firstFloor n m) l s v k → k < i → commandAt l i ≡ Begin s round u
+      → (saidAt (firstFloor n m) l i ≡ said.Refused 9) ⊎ (saidAt (firstFloor n m) l i ≡ said.Refused 10)

@@ -1,0 +1,64 @@
+-- Demand 3: one claim on every list of steps, whoever orders them, whichever boxes stop and whichever stations go. The proof is
+-- `demand3` in proofs/Demand.
+use Prim.Native.Nat.{ℕ, suc, _+_, _*_, _<_}
+use mathlib.Core.Path.{_≡_}
+use mathlib.Core.Bool.{false}
+use mathlib.Core.List.{List, _++_}
+use lib.ListN.{length}
+use Rattle.base.specs.Numbers.{quorum}
+use Rattle.protocol.specs.Quorum.{AtLeast}
+use Rattle.floor.specs.Floors.{newFloorOf}
+use Rattle.floor.specs.Step.{isRefused}
+use Rattle.floor.specs.declared.Floor.{Floor}
+use Rattle.floor.specs.declared.Outcome.the-variants as said
+use Rattle.solo.specs.Solo.{soloOf}
+use Rattle.base.specs.Records.{AllRecords}
+use Rattle.solo.specs.declared.Solo.{Solo}
+use Rattle.agreement.specs.Words.{Before, floorLeft, saidAt, OfferedAt, DecidesAt, OutrankedAt, ShownAt, Answering, IdleAt, attemptsBefore, RoundLeft}
+
+-- "It .. starts from a new floor of any n and m." Where they are out of range that is the floor of one box and one station.
+abbrev pub firstFloor : ℕ → ℕ → Floor
+firstFloor n m = newFloorOf n m .floor
+
+-- What holds whatever the steps are (safety).
+pub record Safety (n m : ℕ) (l : List (List ℕ)) : Type 0 where
+  -- "any two stations that decided have decided the same revision"
+  pub agreement : (i j u v : ℕ) → saidAt (firstFloor n m) l i ≡ said.Decided u → saidAt (firstFloor n m) l j ≡ said.Decided v → u ≡ v
+  -- "each decided revision was offered by a station before it was decided"
+  pub validity : (i v : ℕ) → saidAt (firstFloor n m) l i ≡ said.Decided v → Before (OfferedAt (firstFloor n m) l v) i
+  -- "before each abort a rank higher than the aborted one was served at a box"
+  pub abort : (i a : ℕ) → saidAt (firstFloor n m) l i ≡ said.Aborted a → OutrankedAt (firstFloor n m) l i
+  -- "The decided revision that the floor shows for a station is the one so said, and none only where none was said": on each floor of
+  -- the run, the last one too
+  pub shown : (s i : ℕ) → ShownAt (firstFloor n m) l s i
+
+-- "Driven alone: by a solo finish for it, with any revision. Its steps put behind the list make the floor it hands back, the last of
+-- them says decided, and its number is how many they are." The station s, behind the list l from the floor f; d is what the solo finish
+-- hands back.
+pub record DrivenAlone (f : Floor) (l : List (List ℕ)) (s : ℕ) (d : Solo) : Type 0 where
+  -- its steps, as 8-byte records
+  pub steps : List (List ℕ)
+  pub records : AllRecords steps
+  pub accepted : (i : ℕ) → i < length steps → isRefused (saidAt f (l ++ steps) (length l + i)) ≡ false
+  pub floor : floorLeft f (l ++ steps) ≡ d .floor
+  pub revision : ℕ
+  pub decides : (i : ℕ) → suc i ≡ length steps → DecidesAt f (l ++ steps) s revision (length l + i)
+  pub outcome : d .outcome ≡ said.Decided revision
+  pub number : d .steps ≡ length steps
+  -- "in exactly 4q + 1 steps"
+  pub count : d .steps ≡ 4 * quorum (f .n) + 1
+
+pub record Demand3 (n m : ℕ) (l : List (List ℕ)) : Type 0 where
+  pub safety : Safety n m l
+  -- "On any floor so reached, given q answering boxes, q being a majority of all boxes, fewer than 64 attempts, and a round left that
+  -- outranks every attempt begun, an idle station driven alone, whatever revision it offers, decides in exactly 4q + 1 steps." A
+  -- revision is "a 32-bit number other than 0".
+  pub solo : (s v : ℕ)
+      → s < firstFloor n m .m
+      → IdleAt (firstFloor n m) l s (length l)
+      → AtLeast (quorum (firstFloor n m .n)) (firstFloor n m .n) (Answering (firstFloor n m) l (length l))
+      → attemptsBefore (firstFloor n m) l (length l) < 64
+      → RoundLeft (firstFloor n m) l s (length l)
+      → 0 < v
+      → v < 4294967296
+      → DrivenAlone (firstFloor n m) l s (soloOf (floorLeft (firstFloor n m) l) s v)

@@ -1,0 +1,4 @@
+pub mod Words
+pub mod Demand
+pub mod Consequences
+pub mod Played

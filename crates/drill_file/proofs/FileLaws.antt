@@ -1,0 +1,121 @@
+-- What the functions go by: the definitions of a file's header, one way through them at a time.
+use Prim.Native.Nat.{ℕ, _+_, _-_, _≤_, _<_}
+use mathlib.Core.Path.{_≡_, refl, sym, _∙_, ap}
+use mathlib.Core.Bool.{true, false}
+use mathlib.Core.List.{List, []}
+use native.Mathlib.Numerals.{add-one}
+use native.Mathlib.Omega.{arith}
+use borrow.Author.Tests.{lt-ltb, le-ltb, eqb-true, eqb-false, eq-eqb, ne-eqb}
+use lib.Dec.{eqb}
+use lib.ListN.{length, getD, take, drop, drop-of-length-le, List·getD-eq-default}
+use lib.Seq.{drop-cons}
+use Rattle.base.proofs.Choices.{on-true, on-false, by-test}
+use Rattle.drill_file.specs.DrillFile.{boxesOf, stationsOf, labelLength, recordsStart, recordCount, wrongByte, wrongBytes, wrongLabel, fileRefusal, headerOf, refusalIn, labelOf}
+use Rattle.drill_file.specs.declared.Header.{Header}
+use Rattle.drill_file.specs.declared.Header.the-variants.{Refused, Accepted}
+use Rattle.drill_file.proofs.TestLaws.{accepted-passed}
+
+-- a byte past the end reads 0
+pub past-end : (s : List ℕ) (p : ℕ) → length s ≤ p → 0 ≡ getD s p 0
+past-end s p h = sym (List·getD-eq-default s 0 h)
+
+-- the bytes of a label, from place i on
+module _ (s : List ℕ) (i : ℕ) (e : wrongBytes (drop i s) ≡ wrongBytes s) where
+  module _ (h : i < length s) where
+    pub byte-wrong : wrongByte (getD s i 0) ≡ true → true ≡ wrongBytes s
+    unfolding wrongBytes
+    byte-wrong t = on-true _ t refl ∙ ap wrongBytes (sym (drop-cons s i 0 h)) ∙ e
+
+    pub byte-right : wrongByte (getD s i 0) ≡ false → wrongBytes (drop (i + 1) s) ≡ wrongBytes s
+    unfolding wrongBytes
+    byte-right t = rw add-one (on-false _ t refl ∙ ap wrongBytes (sym (drop-cons s i 0 h)) ∙ e)
+
+  pub bytes-right : length s ≤ i → false ≡ wrongBytes s
+  unfolding wrongBytes
+  bytes-right h = ap wrongBytes (sym (drop-of-length-le s h)) ∙ e
+
+-- the tests of a label, one after the other; its length is l and it ends at e
+module _ (s : List ℕ) (l : ℕ) (p : l ≡ labelLength s) where
+  pub label-empty : l < 1 → true ≡ wrongLabel s
+  unfolding wrongLabel
+  label-empty h = on-true _ (lt-ltb (labelLength s) 1 (omega arith)) refl
+
+  module _ (h : 1 ≤ l) where
+    pub label-long : 32 < l → true ≡ wrongLabel s
+    unfolding wrongLabel
+    label-long k = on-false _ (le-ltb (labelLength s) 1 (omega arith)) (on-true _ (lt-ltb 32 (labelLength s) (omega arith)) refl)
+
+    module _ (k : l ≤ 32) (e : ℕ) (q : e ≡ recordsStart s) where
+      pub label-past : length s < e → true ≡ wrongLabel s
+      unfolding wrongLabel
+      label-past u =
+          on-false _ (le-ltb (labelLength s) 1 (omega arith))
+          (on-false _ (le-ltb 32 (labelLength s) (omega arith)) (on-true _ (lt-ltb (length s) (recordsStart s) (omega arith)) refl))
+
+      pub label-bytes : e ≤ length s → wrongBytes (take (e - 6) (drop 6 s)) ≡ wrongLabel s
+      unfolding wrongLabel
+      label-bytes u =
+          let same : e - 6 ≡ labelLength s = omega arith in
+          on-false _ (le-ltb (labelLength s) 1 (omega arith))
+          (on-false _ (le-ltb 32 (labelLength s) (omega arith)) (on-false _ (le-ltb (length s) (recordsStart s) (omega arith)) (rw same)))
+
+-- header and label by the refusal k of the file
+module _ (s : List ℕ) (k : ℕ) (e : k ≡ fileRefusal s) where
+  module _ (f : k ≡ 0 → ⊥) where
+    refuses : eqb (fileRefusal s) 0 ≡ false
+    refuses = ne-eqb (fileRefusal s) 0 (λ p. f (e ∙ p))
+
+    pub header-refused : Refused k ≡ headerOf s
+    unfolding headerOf
+    header-refused = on-false _ refuses (ap Refused e)
+
+    pub label-refused : [] ≡ labelOf s
+    unfolding labelOf
+    label-refused = on-false _ refuses refl
+
+  module _ (z : k ≡ 0) where
+    accepts : eqb (fileRefusal s) 0 ≡ true
+    accepts = eq-eqb (fileRefusal s) 0 (sym e ∙ z)
+
+    pub header-accepted : Accepted (boxesOf s) (stationsOf s) (recordsStart s) (recordCount s) ≡ headerOf s
+    unfolding headerOf
+    header-accepted = on-true _ accepts refl
+
+    module _ (a : ℕ) (p : a ≡ recordsStart s) where
+      pub label-ends : a ≤ length s
+      label-ends = rw p (accepted-passed s (sym e ∙ z) .labelled .within)
+
+      pub label-accepted : take (a - 6) (drop 6 s) ≡ labelOf s
+      unfolding labelOf
+      label-accepted =
+          let same : a - 6 ≡ labelLength s = omega arith in
+          on-true _ accepts (rw same)
+
+-- document 01's number of the header's answer
+pub header-number : (s : List ℕ) → refusalIn (headerOf s) ≡ fileRefusal s
+unfolding headerOf
+header-number s =
+    by-test (λ (h : Header). refusalIn h ≡ fileRefusal s) (eqb (fileRefusal s) 0) _ _
+    (λ t. sym (eqb-true (fileRefusal s) 0 t)) (λ _. refl)
+
+-- what a caller has in hand where the answer is a refusal, and where it is not
+pub refused-number : (s : List ℕ) (k : ℕ) → headerOf s ≡ Refused k → (fileRefusal s ≡ k) × (k ≡ 0 → ⊥)
+unfolding headerOf
+refused-number s k =
+    by-test (λ (h : Header). h ≡ Refused k → (fileRefusal s ≡ k) × (k ≡ 0 → ⊥)) (eqb (fileRefusal s) 0) _ _
+    (λ _ e. absurd (let z : _≡_ {A = ℕ} 0 1 = cc in omega arith))
+    (λ t e. let same : fileRefusal s ≡ k = cc in (same, λ z. eqb-false (fileRefusal s) 0 t (same ∙ z)))
+
+pub record Values (s : List ℕ) (n m start count : ℕ) : Type 0 where
+  pub accepted : fileRefusal s ≡ 0
+  pub boxes : n ≡ boxesOf s
+  pub stations : m ≡ stationsOf s
+  pub starts : start ≡ recordsStart s
+  pub counts : count ≡ recordCount s
+
+pub accepted-values : (s : List ℕ) (n m start count : ℕ) → headerOf s ≡ Accepted n m start count → Values s n m start count
+unfolding headerOf
+accepted-values s n m start count =
+    by-test (λ (h : Header). h ≡ Accepted n m start count → Values s n m start count) (eqb (fileRefusal s) 0) _ _
+    (λ t e. record { accepted = eqb-true (fileRefusal s) 0 t; boxes = cc; stations = cc; starts = cc; counts = cc })
+    (λ _ e. absurd (let z : _≡_ {A = ℕ} 0 1 = cc in omega arith))

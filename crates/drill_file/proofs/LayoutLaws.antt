@@ -1,0 +1,149 @@
+-- An accepted file is exactly its parts, in the documented layout; and a file so laid out is accepted, with these parts.
+use Prim.Native.Nat.{ℕ, suc, _+_, _-_, _*_, _/_, _%_, _≤_, _<_}
+use mathlib.Core.Path.{_≡_, refl, sym, ap, _∙_}
+use mathlib.Core.List.{List, _∷_, flatten}
+use native.Mathlib.Omega.{arith}
+use borrow.Author.Tests.{eq-eqb}
+use lib.ListN.{length, getD, drop, length-append, length-drop, take-append-drop}
+use lib.Seq.{drop-cons, drop-drop, take-all, length-take-le, take-append-seam}
+use Rattle.base.proofs.Choices.{on-true}
+use Rattle.drill_file.specs.DrillFile.{statedSize, boxesOf, stationsOf, labelLength, labelPart, recordsStart, afterLabel, recordCount, fileRefusal, headerOf, labelOf, recordsOf}
+use Rattle.base.specs.Records.{recordsFrom}
+use Rattle.drill_file.specs.Layout.{bodyOf, fileOf, Parts, LaidOut}
+use Rattle.drill_file.specs.declared.Header.the-variants.{Accepted}
+use Rattle.drill_file.proofs.TestLaws.{accepted-passed, passed-accepted}
+use Rattle.drill_file.proofs.FileLaws.{header-accepted, accepted-values}
+use Rattle.base.proofs.RecordLaws.{record-length, records-length, record-nth, records-joined, joined-length, records-back}
+
+-- the first six bytes of a file, and the rest
+six : (s : List ℕ) → 6 ≤ length s → s ≡ getD s 0 0 ∷ getD s 1 0 ∷ getD s 2 0 ∷ getD s 3 0 ∷ getD s 4 0 ∷ getD s 5 0 ∷ drop 6 s
+six s h =
+    cc (drop-cons s 0 0 (omega arith), drop-cons s 1 0 (omega arith), drop-cons s 2 0 (omega arith), drop-cons s 3 0 (omega arith), drop-cons s 4 0 (omega arith), drop-cons s 5 0 (omega arith))
+
+label-is : (s : List ℕ) → fileRefusal s ≡ 0 → labelOf s ≡ labelPart s
+unfolding labelOf
+label-is s e = sym (on-true _ (eq-eqb (fileRefusal s) 0 e) refl)
+
+module _ (s : List ℕ) (e : fileRefusal s ≡ 0) where
+  label-long : length (labelPart s) ≡ labelLength s
+  label-long = length-take-le (labelLength s) (drop 6 s) (rw length-drop (omega (arith, accepted-passed s e .labelled .within)))
+
+  -- header, label and records fill the file
+  pub accepted-size : length s ≡ 6 + labelLength s + 8 * recordCount s
+  accepted-size =
+      let p = accepted-passed s e in
+      omega (arith, p .labelled .within, p .recorded .whole)
+
+  -- the joined records are the rest of the file
+  pub accepted-rest : flatten (recordsOf s) ≡ drop (recordsStart s) s
+  accepted-rest =
+      records-joined (recordCount s) s (recordsStart s) (omega (arith, accepted-size))
+      ∙ take-all (8 * recordCount s) (drop (recordsStart s) s) (rw length-drop (omega (arith, accepted-size)))
+
+  -- the parts are such as a file may have
+  pub accepted-parts : Parts (boxesOf s) (stationsOf s) (labelOf s) (recordsOf s)
+  accepted-parts =
+      let p = accepted-passed s e in
+      let many = records-length (recordCount s) s (recordsStart s) in
+      rw (label-is s e)
+      (record {
+        boxes = (p .floored .box-least, p .floored .box-most);
+        stations = (p .floored .station-least, p .floored .station-most);
+        labelled = rw label-long (p .labelled .some, p .labelled .few);
+        printable = p .labelled .printable;
+        few = rw many (p .recorded .few);
+        eights = λ i h.
+            ap length (record-nth (recordCount s) s (recordsStart s) i (rw many at h)) ∙ record-length s (recordsStart s + 8 * i);
+      })
+
+  -- the bytes from the version on
+  body-is : 1 ∷ boxesOf s ∷ stationsOf s ∷ labelLength s ∷ drop 6 s ≡ bodyOf (boxesOf s) (stationsOf s) (labelOf s) (recordsOf s)
+  unfolding bodyOf
+  body-is = rw (label-is s e, label-long, accepted-rest, ← (drop-drop (labelLength s) 6 s), take-append-drop (labelLength s) (drop 6 s))
+
+  -- the file is these parts in the documented layout, and nothing else
+  pub accepted-exactly : ((i : ℕ) → getD s i 0 < 256) → s ≡ fileOf (boxesOf s) (stationsOf s) (labelOf s) (recordsOf s)
+  unfolding fileOf
+  accepted-exactly b =
+      let p = accepted-passed s e in
+      let z = p .sized in
+      let size : length (drop 6 s) ≡ length s - 6 = length-drop 6 s in
+      let high : getD s 0 0 ≡ suc (suc (suc (suc (length (drop 6 s))))) / 256 = omega (arith, b 1, z .stated, z .least) in
+      let low : getD s 1 0 ≡ suc (suc (suc (suc (length (drop 6 s))))) % 256 = omega (arith, b 1, z .stated, z .least) in
+      rw (← body-is) (six s (z .least) ∙ rw (high, low, p .version))
+
+-- whatever file of bytes the reader accepts is laid out as it says
+pub header-layout : (s : List ℕ) → ((i : ℕ) → getD s i 0 < 256) → (n m start count : ℕ) → headerOf s ≡ Accepted n m start count → LaidOut s n m start count
+header-layout s b n m start count h =
+    let v = accepted-values s n m start count h in
+    let e = v .accepted in
+    rw (v .boxes, v .stations, v .starts, v .counts)
+    (record {
+      parts = accepted-parts s e;
+      exactly = accepted-exactly s e b;
+      starts = ap (λ (k : ℕ). 6 + k) (sym (ap length (label-is s e) ∙ label-long s e));
+      size = accepted-size s e;
+      rest = accepted-rest s e;
+    })
+
+-- the other way: a file that is written from such parts
+module _ (n m : ℕ) (l : List ℕ) (rs : List (List ℕ)) (p : Parts n m l rs) where
+  abbrev file : List ℕ
+  file = fileOf n m l rs
+
+  pub written-size : length file ≡ 6 + length l + 8 * length rs
+  unfolding fileOf bodyOf
+  written-size = simp (length-append, joined-length rs (p .eights)) (omega arith)
+
+  stated : statedSize file ≡ length file - 2
+  unfolding fileOf bodyOf
+  stated = omega arith
+
+  part : labelPart file ≡ l
+  unfolding fileOf bodyOf
+  part = take-append-seam l (flatten rs)
+
+  after : afterLabel file ≡ 8 * length rs
+  unfolding fileOf bodyOf
+  after = simp (length-append, joined-length rs (p .eights)) (omega arith)
+
+  count : recordCount file ≡ length rs
+  count = omega (arith, after)
+
+  written-passed : fileRefusal file ≡ 0
+  unfolding fileOf bodyOf
+  written-passed =
+      passed-accepted file
+      (record {
+        sized = record {
+          least = omega (arith, written-size);
+          most = omega (arith, written-size, p .labelled .1, p .few);
+          stated = stated;
+        };
+        version = refl;
+        floored = record { box-least = p .boxes .0; box-most = p .boxes .1; station-least = p .stations .0; station-most = p .stations .1 };
+        labelled = record {
+          some = p .labelled .0;
+          few = p .labelled .1;
+          within = omega (arith, written-size);
+          printable = rw part (p .printable);
+        };
+        recorded = record { whole = omega (arith, after); few = rw count (p .few) };
+      })
+
+  pub written-accepted : headerOf file ≡ Accepted n m (6 + length l) (length rs)
+  unfolding fileOf bodyOf
+  written-accepted = sym (header-accepted file 0 (sym written-passed) refl) ∙ ap (Accepted n m (6 + length l)) count
+
+  pub written-label : labelOf file ≡ l
+  written-label = label-is file written-passed ∙ part
+
+  pub written-records : recordsOf file ≡ rs
+  unfolding fileOf bodyOf
+  written-records =
+      let body = length (bodyOf n m l rs) in
+      let head : List ℕ = body / 256 ∷ body % 256 ∷ 1 ∷ n ∷ m ∷ length l ∷ l in
+      let start : recordsStart file ≡ length head = omega arith in
+      ap (λ (k : ℕ). recordsFrom k file (recordsStart file)) count
+      ∙ ap (recordsFrom (length rs) file) start
+      ∙ records-back rs (p .eights) head

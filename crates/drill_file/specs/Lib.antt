@@ -1,0 +1,2 @@
+pub mod DrillFile
+pub mod Layout

@@ -1,0 +1,187 @@
+// The drill file: its header, its label and its records (document 01, "The drill file" and the refusals 1 to 5).
+ghost use mathlib.Core.Path.{_≡_};
+ghost use Prim.Native.Nat.{_+_, _*_};
+ghost use lib.ListN.{getD};
+ghost use Rattle.drill_file.specs.DrillFile.{recordsStart, afterLabel, wrongSize, wrongVersion, wrongFloor, wrongByte, wrongBytes, wrongLabel, wrongRecords, fileRefusal, headerOf, refusalIn, labelOf};
+
+// What the header says: the refusal, or n, m, where the records start and how many there are.
+pub enum Header {
+    Refused(u8),
+    Accepted {
+        n: u8,
+        m: u8,
+        start: usize,
+        count: usize,
+    },
+}
+
+fn wide(x: u8) -> usize
+    ensures { λ y. ⌜ y ≡ x ⌝ }
+{
+    x as usize
+}
+
+// The number of two bytes, big-endian.
+fn pair(high: u8, low: u8) -> usize
+    ensures { λ y. ⌜ y ≡ high * 256 + low ⌝ }
+{
+    high as usize * 256 + low as usize
+}
+
+// The byte at a place, 0 past the end.
+fn byte_at(file: &[u8], at: usize) -> u8
+    ensures { λ y. ⌜ y ≡ getD (now (file .entry)) at 0 ⌝ }
+{
+    if file.len() <= at {
+        return 0;
+    }
+    file[at]
+}
+
+// Where the records start: behind the label.
+fn records_start(file: &[u8]) -> usize
+    ensures { λ y. ⌜ y ≡ recordsStart (now (file .entry)) ⌝ }
+{
+    6 + wide(byte_at(file, 5))
+}
+
+// How many bytes follow the label.
+fn after_label(file: &[u8]) -> usize
+    ensures { λ y. ⌜ y ≡ afterLabel (now (file .entry)) ⌝ }
+{
+    let start = records_start(file);
+    if file.len() < start {
+        return 0;
+    }
+    file.len() - start
+}
+
+// Refusal 1.
+fn wrong_size(file: &[u8]) -> bool
+    ensures { λ y. ⌜ y ≡ wrongSize (now (file .entry)) ⌝ }
+{
+    let size = file.len();
+    if size < 6 {
+        return true;
+    }
+    if 32806 < size {
+        return true;
+    }
+    pair(byte_at(file, 0), byte_at(file, 1)) != size - 2
+}
+
+// Refusal 2.
+fn wrong_version(file: &[u8]) -> bool
+    ensures { λ y. ⌜ y ≡ wrongVersion (now (file .entry)) ⌝ }
+{
+    byte_at(file, 2) != 1
+}
+
+// Refusal 3.
+fn wrong_floor(file: &[u8]) -> bool
+    ensures { λ y. ⌜ y ≡ wrongFloor (now (file .entry)) ⌝ }
+{
+    !base::sizes_right(byte_at(file, 3), byte_at(file, 4))
+}
+
+fn wrong_byte(b: u8) -> bool
+    ensures { λ y. ⌜ y ≡ wrongByte b ⌝ }
+{
+    if b < 33 {
+        return true;
+    }
+    126 < b
+}
+
+// Whether a byte of a label is not 33 to 126.
+fn wrong_bytes(s: &[u8]) -> bool
+    ensures { λ y. ⌜ y ≡ wrongBytes (now (s .entry)) ⌝ }
+{
+    let mut i = 0;
+    while i < s.len() {
+        if wrong_byte(s[i]) {
+            return true;
+        }
+        i += 1;
+    }
+    false
+}
+
+// Refusal 4.
+fn wrong_label(file: &[u8]) -> bool
+    ensures { λ y. ⌜ y ≡ wrongLabel (now (file .entry)) ⌝ }
+{
+    let length = byte_at(file, 5);
+    if length < 1 {
+        return true;
+    }
+    if 32 < length {
+        return true;
+    }
+    let end = records_start(file);
+    if file.len() < end {
+        return true;
+    }
+    wrong_bytes(&file[6..end])
+}
+
+// Refusal 5.
+fn wrong_records(file: &[u8]) -> bool
+    ensures { λ y. ⌜ y ≡ wrongRecords (now (file .entry)) ⌝ }
+{
+    let rest = after_label(file);
+    if rest % 8 != 0 {
+        return true;
+    }
+    4096 < rest / 8
+}
+
+// The first of the refusals 1 to 5 that applies, 0 where none does.
+fn file_refusal(file: &[u8]) -> u8
+    ensures { λ y. ⌜ y ≡ fileRefusal (now (file .entry)) ⌝ }
+{
+    if wrong_size(file) {
+        return 1;
+    }
+    if wrong_version(file) {
+        return 2;
+    }
+    if wrong_floor(file) {
+        return 3;
+    }
+    if wrong_label(file) {
+        return 4;
+    }
+    if wrong_records(file) {
+        return 5;
+    }
+    0
+}
+
+// The header of a file of any bytes.
+pub fn read_header(file: &[u8]) -> Header
+    ensures answer { λ y. ⌜ y ≡ headerOf (now (file .entry)) ⌝ }
+    ensures number { λ y. ⌜ refusalIn y ≡ fileRefusal (now (file .entry)) ⌝ }
+{
+    let refusal = file_refusal(file);
+    if refusal != 0 {
+        return Header::Refused(refusal);
+    }
+    Header::Accepted {
+        n: byte_at(file, 3),
+        m: byte_at(file, 4),
+        start: records_start(file),
+        count: after_label(file) / 8,
+    }
+}
+
+// The label, as that part of the file; of a refused file, an empty part.
+pub fn label(file: &[u8]) -> &[u8]
+    ensures { λ y. ⌜ now y ≡ labelOf (now (file .entry)) ⌝ }
+{
+    if file_refusal(file) != 0 {
+        return &file[0..0];
+    }
+    let end = records_start(file);
+    &file[6..end]
+}

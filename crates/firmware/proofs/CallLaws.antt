@@ -1,0 +1,146 @@
+-- What the two calls answer and leave, case by case. The cases exclude each other and leave none out: 16 stands before 17, and each is
+-- given for no other cause. After a call that is not refused the record holds the register that the routine by value gives.
+use mathlib.Core.Path.{_≡_, refl, sym, _∙_, ap}
+use mathlib.Core.Logic.{_⊎_, inl, inr, ⊎-map}
+use mathlib.Core.Bool.{Bool, true, false, not, _||_, false≢true}
+use mathlib.Core.List.{List}
+use Prim.Native.Nat.{ℕ, _<_, _^_}
+use native.Mathlib.Omega.{arith}
+use lib.Dec.{eqb}
+use lib.ListN.{length}
+use borrow.Author.Tests.{eq-eqb, ne-eqb}
+use Rattle.base.proofs.Choices.{on-true, on-false, by-test}
+use Rattle.register.specs.Register.{rmwRead, takes, rmwWrite}
+use Rattle.register.proofs.RegisterLaws.{write-refused, write-answers}
+use Rattle.register.specs.declared.Register.{Register}
+use Rattle.register.specs.declared.ReadDone.{ReadDone}
+use Rattle.register.specs.declared.WriteDone.{WriteDone}
+use Rattle.firmware.specs.Bytes.{AllBytes}
+use Rattle.firmware.specs.Firmware.{Fits32, encode, decode, replyOf, readAnswer, recordAfterRead, replyAfterRead, writeAnswer, recordAfterWrite}
+use Rattle.firmware.proofs.RecordLaws.{decode-encode, decode-fits}
+
+-- the tests of the refusals: a length that is this number, or another; of two tests one holds, or none
+this : (x k : ℕ) → x ≡ k → not (eqb x k) ≡ false
+this x k e = ap not (eq-eqb x k e)
+
+other : (x k : ℕ) → (x ≡ k → ⊥) → not (eqb x k) ≡ true
+other x k n = ap not (ne-eqb x k n)
+
+either : (t u : Bool) → (t ≡ true) ⊎ (u ≡ true) → (t || u) ≡ true
+either true u h = refl
+either false u (inl h) = absurd (false≢true h)
+either false u (inr h) = h
+
+neither : (t u : Bool) → t ≡ false → u ≡ false → (t || u) ≡ false
+neither t u e f = rw (e, f)
+
+-- the routine keeps a register's fields within 32 bits
+module _ (x : Register) (r : ℕ) (f : Fits32 x) (g : r < 2 ^ 32) where
+  pub read-fits : Fits32 (rmwRead x r .register)
+  unfolding rmwRead
+  read-fits = record { read = omega arith; write = f .write; value = f .value }
+
+  pub write-fits : (v : ℕ) → v < 2 ^ 32 → Fits32 (rmwWrite x r v .register)
+  unfolding rmwWrite
+  write-fits v k =
+      by-test (λ (d : WriteDone). Fits32 (d .register)) (takes x r) _ _ (λ _. record { read = f .read; write = g; value = k }) (λ _. f)
+
+-- ---- a read of record s with rank r and reply p
+module _ (s : List ℕ) (r : ℕ) (p : List ℕ) where
+  pub read-16 : (length s ≡ 12 → ⊥) ⊎ (length p ≡ 8 → ⊥) → 16 ≡ readAnswer s r p
+  unfolding readAnswer
+  read-16 h = on-true _ (either _ _ (⊎-map (other _ 12) (other _ 8) h)) refl
+
+  module _ (hs : length s ≡ 12) (hp : length p ≡ 8) where
+    lengths : (not (eqb (length s) 12) || not (eqb (length p) 8)) ≡ false
+    lengths = neither _ _ (this _ 12 hs) (this _ 8 hp)
+
+    pub read-17 : r ≡ 0 → 17 ≡ readAnswer s r p
+    unfolding readAnswer
+    read-17 e = on-false _ lengths (on-true _ (eq-eqb r 0 e) refl)
+
+    pub read-0 : (r ≡ 0 → ⊥) → 0 ≡ readAnswer s r p
+    unfolding readAnswer
+    read-0 n = on-false _ lengths (on-false _ (ne-eqb r 0 n) refl)
+
+  -- "record and reply stay unchanged" after any other answer than 0
+  pub read-refused : (a : ℕ) → eqb a 0 ≡ false → a ≡ readAnswer s r p → (s ≡ recordAfterRead s r p) × (p ≡ replyAfterRead s r p)
+  unfolding recordAfterRead replyAfterRead
+  read-refused a n e = let t = ap (λ (x : ℕ). eqb x 0) (sym e) ∙ n in (on-false _ t refl, on-false _ t refl)
+
+  module _ (e : 0 ≡ readAnswer s r p) where
+    zero-read : eqb (readAnswer s r p) 0 ≡ true
+    zero-read = ap (λ (x : ℕ). eqb x 0) (sym e)
+
+    -- after answer 0 the record is that of the register after the read, and the reply that of its answer
+    pub read-record : encode (rmwRead (decode s) r .register) ≡ recordAfterRead s r p
+    unfolding recordAfterRead
+    read-record = on-true _ zero-read refl
+
+    pub read-reply : replyOf (rmwRead (decode s) r .rank) (rmwRead (decode s) r .value) ≡ replyAfterRead s r p
+    unfolding replyAfterRead
+    read-reply = on-true _ zero-read refl
+
+    -- as the code comes to it, from what was loaded and what the routine made of it
+    pub read-ends-0 : (x : Register) (d : ReadDone) (s′ p′ : List ℕ) → x ≡ decode s → d ≡ rmwRead x r → s′ ≡ encode (d .register)
+        → p′ ≡ replyOf (d .rank) (d .value) → (0 ≡ readAnswer s r p) × ((s′ ≡ recordAfterRead s r p) × (p′ ≡ replyAfterRead s r p))
+    read-ends-0 x d s′ p′ ex ed es ep =
+        let g : d ≡ rmwRead (decode s) r = ed ∙ ap (λ (y : Register). rmwRead y r) ex in
+        let es′ : s′ ≡ recordAfterRead s r p = es ∙ ap (λ (y : ReadDone). encode (y .register)) g ∙ read-record in
+        let ep′ : p′ ≡ replyAfterRead s r p = ep ∙ ap (λ (y : ReadDone). replyOf (y .rank) (y .value)) g ∙ read-reply in
+        (e, (es′, ep′))
+
+    -- the record decodes to the register that the routine by value gives
+    pub read-routine : length s ≡ 12 → AllBytes s → r < 2 ^ 32 → decode (recordAfterRead s r p) ≡ rmwRead (decode s) r .register
+    read-routine h b g = ap decode (sym read-record) ∙ decode-encode _ (read-fits (decode s) r (decode-fits s h b) g)
+
+-- ---- a write of revision v to record s with rank r
+module _ (s : List ℕ) (r v : ℕ) where
+  pub write-16 : (length s ≡ 12 → ⊥) → 16 ≡ writeAnswer s r v
+  unfolding writeAnswer
+  write-16 n = on-true _ (other _ 12 n) refl
+
+  pub write-17 : length s ≡ 12 → (r ≡ 0) ⊎ (v ≡ 0) → 17 ≡ writeAnswer s r v
+  unfolding writeAnswer
+  write-17 h e = on-false _ (this _ 12 h) (on-true _ (either _ _ (⊎-map (eq-eqb r 0) (eq-eqb v 0) e)) refl)
+
+  -- the record stays as it is after any other answer than 0: refused or not taken
+  pub write-kept : (a : ℕ) → eqb a 0 ≡ false → a ≡ writeAnswer s r v → s ≡ recordAfterWrite s r v
+  unfolding recordAfterWrite
+  write-kept a n e = on-false _ (ap (λ (x : ℕ). eqb x 0) (sym e) ∙ n) refl
+
+  -- after answer 0 it is that of the register after the write
+  pub write-record : 0 ≡ writeAnswer s r v → encode (rmwWrite (decode s) r v .register) ≡ recordAfterWrite s r v
+  unfolding recordAfterWrite
+  write-record e = on-true _ (ap (λ (x : ℕ). eqb x 0) (sym e)) refl
+
+  module _ (h : length s ≡ 12) (n : r ≡ 0 → ⊥) (m : v ≡ 0 → ⊥) where
+    pub write-0 : rmwWrite (decode s) r v .taken ≡ true → 0 ≡ writeAnswer s r v
+    unfolding writeAnswer
+    write-0 t = on-false _ (this _ 12 h) (on-false _ (neither _ _ (ne-eqb r 0 n) (ne-eqb v 0 m)) (on-true _ t refl))
+
+    pub write-100 : rmwWrite (decode s) r v .taken ≡ false → 100 ≡ writeAnswer s r v
+    unfolding writeAnswer
+    write-100 t = on-false _ (this _ 12 h) (on-false _ (neither _ _ (ne-eqb r 0 n) (ne-eqb v 0 m)) (on-false _ t refl))
+
+    -- as the code comes to it, from what was loaded and what the routine made of it
+    module _ (x : Register) (d : WriteDone) (ex : x ≡ decode s) (ed : d ≡ rmwWrite x r v) where
+      made : d ≡ rmwWrite (decode s) r v
+      made = ed ∙ ap (λ (y : Register). rmwWrite y r v) ex
+
+      pub write-ends-100 : d .taken ≡ false → (100 ≡ writeAnswer s r v) × (s ≡ recordAfterWrite s r v)
+      write-ends-100 t =
+          let e = write-100 (ap (λ (y : WriteDone). y .taken) (sym made) ∙ t) in (e, write-kept 100 refl e)
+
+      pub write-ends-0 : d .taken ≡ true → (s′ : List ℕ) → s′ ≡ encode (d .register) → (0 ≡ writeAnswer s r v) × (s′ ≡ recordAfterWrite s r v)
+      write-ends-0 t s′ es =
+          let e = write-0 (ap (λ (y : WriteDone). y .taken) (sym made) ∙ t) in
+          (e, es ∙ ap (λ (y : WriteDone). encode (y .register)) made ∙ write-record e)
+
+    -- the record decodes to the register that the routine by value gives, taken or not
+    pub write-routine : AllBytes s → r < 2 ^ 32 → v < 2 ^ 32 → decode (recordAfterWrite s r v) ≡ rmwWrite (decode s) r v .register
+    write-routine b g k = by-taken (rmwWrite (decode s) r v .taken) refl
+      where
+        by-taken : (t : Bool) → rmwWrite (decode s) r v .taken ≡ t → decode (recordAfterWrite s r v) ≡ rmwWrite (decode s) r v .register
+        by-taken true t = ap decode (sym (write-record (write-0 t))) ∙ decode-encode _ (write-fits (decode s) r (decode-fits s h b) g v k)
+        by-taken false t = ap decode (sym (write-kept 100 refl (write-100 t))) ∙ sym (ap (λ (y : WriteDone). y .register) (write-refused (decode s) r v (sym (write-answers (decode s) r v) ∙ t)))

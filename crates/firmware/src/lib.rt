@@ -1,0 +1,101 @@
+// The box routine as box firmware in C calls it: document 01's section "The box routine", on a record of 12 bytes. The routine itself
+// is crate `register`'s, which the floor runs too; here are the bytes, the answers and the refusals.
+use register::Register;
+use register::rmw_read;
+use register::rmw_write;
+ghost use mathlib.Core.Path.{_≡_};
+ghost use Prim.Native.Nat.{_+_, _≤_};
+ghost use lib.ListN.{length};
+ghost use Rattle.firmware.specs.Bytes.{wordAt, withWord};
+ghost use Rattle.firmware.specs.Firmware.{decode, encode, replyOf, readAnswer, recordAfterRead, replyAfterRead, writeAnswer, recordAfterWrite};
+
+// ---- Numbers of 32 bits, big-endian
+
+fn get_u32(s: &[u8], at: usize) -> u32
+    requires { ⌜ at + 4 ≤ length (now s) ⌝ }
+    ensures { λ y. ⌜ y ≡ wordAt (now (s .entry)) at ⌝ }
+{
+    base::be32(s[at], s[at + 1], s[at + 2], s[at + 3])
+}
+
+fn put_u32(s: &mut [u8], at: usize, x: u32)
+    requires { ⌜ at + 4 ≤ length (now s) ⌝ }
+    ensures { λ _. ⌜ now (s .exit) ≡ withWord (now (s .entry)) at x ⌝ }
+{
+    s[at] = (x / 16777216 % 256) as u8;
+    s[at + 1] = (x / 65536 % 256) as u8;
+    s[at + 2] = (x / 256 % 256) as u8;
+    s[at + 3] = (x % 256) as u8;
+}
+
+// ---- The record of 12 bytes and the reply of 8
+
+fn load(s: &[u8]) -> Register
+    requires { ⌜ length (now s) ≡ 12 ⌝ }
+    ensures { λ y. ⌜ y ≡ decode (now (s .entry)) ⌝ }
+{
+    let read = get_u32(s, 0);
+    let write = get_u32(s, 4);
+    let value = get_u32(s, 8);
+    Register { read, write, value }
+}
+
+fn store(s: &mut [u8], x: Register)
+    requires { ⌜ length (now s) ≡ 12 ⌝ }
+    ensures { λ _. ⌜ now (s .exit) ≡ encode x ⌝ }
+{
+    put_u32(s, 0, x.read);
+    put_u32(s, 4, x.write);
+    put_u32(s, 8, x.value);
+}
+
+fn store_reply(s: &mut [u8], rank: u32, value: u32)
+    requires { ⌜ length (now s) ≡ 8 ⌝ }
+    ensures { λ _. ⌜ now (s .exit) ≡ replyOf rank value ⌝ }
+{
+    put_u32(s, 0, rank);
+    put_u32(s, 4, value);
+}
+
+// ---- The two calls, `bytes` being the record. A refusal, 16 or 17, is decided before the first store.
+
+// A read: the record's read rank becomes the larger of itself and the rank; the reply is filled with write rank and value.
+#[no_mangle]
+pub extern "C" fn box_read(bytes: &mut [u8], rank: u32, reply: &mut [u8]) -> u32
+    ensures answer { λ y. ⌜ y ≡ readAnswer (now (bytes .entry)) rank (now (reply .entry)) ⌝ }
+    ensures kept { λ _. ⌜ now (bytes .exit) ≡ recordAfterRead (now (bytes .entry)) rank (now (reply .entry)) ⌝ }
+    ensures replied { λ _. ⌜ now (reply .exit) ≡ replyAfterRead (now (bytes .entry)) rank (now (reply .entry)) ⌝ }
+{
+    if bytes.len() != 12 || reply.len() != 8 {
+        return 16;
+    }
+    if rank == 0 {
+        return 17;
+    }
+    let done = rmw_read(load(bytes), rank);
+    let after = done.register;
+    store(bytes, after);
+    store_reply(reply, done.rank, done.value);
+    0
+}
+
+// A write: 0 where it is taken, and 100 where it is not; then the record stays as it is.
+#[no_mangle]
+pub extern "C" fn box_write(bytes: &mut [u8], rank: u32, revision: u32) -> u32
+    ensures answer { λ y. ⌜ y ≡ writeAnswer (now (bytes .entry)) rank revision ⌝ }
+    ensures kept { λ _. ⌜ now (bytes .exit) ≡ recordAfterWrite (now (bytes .entry)) rank revision ⌝ }
+{
+    if bytes.len() != 12 {
+        return 16;
+    }
+    if rank == 0 || revision == 0 {
+        return 17;
+    }
+    let done = rmw_write(load(bytes), rank, revision);
+    let after = done.register;
+    if done.taken {
+        store(bytes, after);
+        return 0;
+    }
+    100
+}

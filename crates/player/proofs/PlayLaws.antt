@@ -1,0 +1,76 @@
+-- Playing a file, by its header's answer.
+use Prim.Native.Nat.{ℕ, _+_, _-_, _*_, _/_, _≤_}
+use native.Mathlib.Omega.{arith}
+use native.Mathlib.Nat.{add-zero}
+use mathlib.Core.Path.{_≡_, refl, sym, ap, ap₂, subst, _∙_}
+use mathlib.Core.List.{List}
+use lib.ListN.{length, take, drop, length-drop}
+use lib.Seq.{take-all}
+use borrow.Author.Tests.{eq-eqb, ne-eqb}
+use Rattle.base.proofs.Choices.{on-true, on-false}
+use Rattle.base.specs.Records.{recordsFrom}
+use mathlib.Core.Bool.{true}
+use Rattle.base.specs.Choice.{if_then_else_}
+use Rattle.base.specs.Numbers.{sizesRight}
+use Rattle.base.proofs.RecordLaws.{records-drop}
+use Rattle.floor.specs.Floors.{emptyFloor, newFloorOf}
+use Rattle.floor.specs.Runs.{runOf}
+use Rattle.drill_file.specs.DrillFile.{boxesOf, stationsOf, recordsStart, recordCount, fileRefusal, headerOf, recordsOf}
+use Rattle.drill_file.proofs.FileLaws.{Values, refused-number, accepted-values}
+use Rattle.drill_file.proofs.TestLaws.{accepted-passed}
+use Rattle.player.specs.Played.{ofRun, playedOf}
+use Rattle.floor.specs.declared.Floor.{Floor}
+use Rattle.floor.specs.declared.NewFloor.{NewFloor}
+use Rattle.drill_file.specs.declared.Header.{Header}
+use Rattle.drill_file.specs.declared.Header.the-variants.{Refused, Accepted}
+use Rattle.player.specs.declared.Played.{Played}
+
+-- the new floor of one box and one station
+ones-right : sizesRight 1 1 ≡ true
+unfolding sizesRight if_then_else_
+ones-right = refl
+
+one-by-one : newFloorOf 1 1 .floor ≡ emptyFloor 1 1
+unfolding newFloorOf
+one-by-one = ap (λ (x : NewFloor). x .floor) (sym (on-true _ ones-right refl))
+
+-- an accepted file's run
+pub played-accepted : (s : List ℕ) → fileRefusal s ≡ 0 → playedOf s ≡ ofRun (runOf (newFloorOf (boxesOf s) (stationsOf s) .floor) (recordsOf s))
+unfolding playedOf
+played-accepted s e = sym (on-true _ (eq-eqb _ _ e) refl)
+
+-- a file that is refused: the floor of one box and one station, no steps
+pub played-refused : (s : List ℕ) → (fileRefusal s ≡ 0 → ⊥) → playedOf s ≡ record { floor = emptyFloor 1 1; accepted = 0; refusal = fileRefusal s }
+unfolding playedOf
+played-refused s e = sym (on-false _ (ne-eqb _ _ e) refl)
+
+module _ (s : List ℕ) (h : Header) (e : h ≡ headerOf s) where
+  pub header-refused : (k : ℕ) (x : NewFloor) → h ≡ Refused k → x ≡ newFloorOf 1 1 → record { floor = x .floor; accepted = 0; refusal = k } ≡ playedOf s
+  header-refused k x q ex =
+      let z = refused-number s k (sym e ∙ q) in
+      let g : x .floor ≡ emptyFloor 1 1 = ap (λ (y : NewFloor). y .floor) ex ∙ one-by-one in
+      rw (g, ← z .0) (sym (played-refused s (λ p. z .1 (sym (z .0) ∙ p))))
+
+  module _ (n m start count : ℕ) (q : h ≡ Accepted n m start count) where
+    values : Values s n m start count
+    values = accepted-values s n m start count (sym e ∙ q)
+
+    pub start-within : start ≤ length s
+    start-within = let w = accepted-passed s (values .accepted) .labelled .within in omega (arith, values .starts)
+
+    rest : take (length s - start) (drop start s) ≡ drop start s
+    rest = take-all (length s - start) (drop start s) (rw length-drop (omega arith))
+
+    records : recordsFrom (length (take (length s - start) (drop start s)) / 8) (take (length s - start) (drop start s)) 0 ≡ recordsOf s
+    records =
+        ap (λ (l : List ℕ). recordsFrom (length l / 8) l 0) rest
+        ∙ ap (λ (k : ℕ). recordsFrom (k / 8) (drop start s) 0) (length-drop start s)
+        ∙ records-drop ((length s - start) / 8) s start 0
+        ∙ ap (recordsFrom ((length s - start) / 8) s) (add-zero start)
+        ∙ ap (λ (k : ℕ). recordsFrom ((length s - k) / 8) s k) (values .starts)
+
+    pub header-played : (y : Played) → y ≡ ofRun (runOf (newFloorOf n m .floor) (recordsFrom (length (take (length s - start) (drop start s)) / 8) (take (length s - start) (drop start s)) 0)) → y ≡ playedOf s
+    header-played y ey =
+        ey ∙ ap (λ (l : List (List ℕ)). ofRun (runOf (newFloorOf n m .floor) l)) records
+        ∙ ap₂ (λ (a b : ℕ). ofRun (runOf (newFloorOf a b .floor) (recordsOf s))) (values .boxes) (values .stations)
+        ∙ sym (played-accepted s (values .accepted))

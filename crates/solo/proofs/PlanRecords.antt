@@ -1,0 +1,55 @@
+-- The plan of a solo finish is made of records of 8 bytes.
+use Prim.Native.Nat.{ℕ, zero, suc, _+_, _≤_, _<_}
+use native.Mathlib.Omega.{arith}
+use mathlib.Core.Bool.{Bool, true, false}
+use mathlib.Core.List.{List, [], _∷_}
+use lib.ListN.{take}
+use Rattle.base.specs.Numbers.{quorum}
+use Rattle.base.proofs.Choices.{by-test}
+use Rattle.register.specs.declared.StorageBox.{StorageBox}
+use Rattle.floor.specs.Commands.{encodeOf}
+use Rattle.floor.proofs.Encodings.{encode-length}
+use Rattle.floor.proofs.CommandLaws.{Fielded, encode-bytes}
+use Rattle.floor.specs.declared.Floor.{Floor}
+use Rattle.floor.specs.declared.Command.{Command}
+use Rattle.floor.specs.declared.Command.the-variants.{Begin, ServeRead, ServeWrite, DeliverRead, DeliverWrite}
+use Rattle.solo.specs.Plan.{roundOf, answeringFrom, answering, lowest, exchange, exchanges, planOf}
+use Rattle.base.specs.Records.{IsRecord, AllRecords}
+use Rattle.base.proofs.RecordLaws.{all-append}
+
+-- the boxes asked have numbers that fit a byte
+abbrev Below : ℕ → List ℕ → Type 0
+Below n [] = Unit {0}
+Below n (b ∷ bs) = (b < n) × Below n bs
+
+below-take : (n k : ℕ) (bs : List ℕ) → Below n bs → Below n (take k bs)
+below-take n zero bs u = tt
+below-take n (suc k) [] u = tt
+below-take n (suc k) (b ∷ bs) u = (u .0, below-take n k bs (u .1))
+
+answering-below : (n : ℕ) (boxes : List StorageBox) (k b : ℕ) → b + k ≤ n → Below n (answeringFrom k b boxes)
+unfolding answeringFrom
+answering-below n boxes zero b h = tt
+answering-below n boxes (suc k) b h =
+    let r = answering-below n boxes k (b + 1) (omega arith) in
+    by-test (Below n) _ _ _ (λ _. r) (λ _. (omega arith, r))
+
+command-record : (c : Command) → Fielded c → IsRecord (encodeOf c)
+command-record c h = record { eight = encode-length c; bytes = encode-bytes c h }
+
+exchanges-records : (write : Bool) (a : ℕ) (bs : List ℕ) → a < 256 → Below 256 bs → AllRecords (exchanges write a bs)
+unfolding exchanges exchange
+exchanges-records write a [] h u = tt
+exchanges-records false a (b ∷ bs) h u =
+    (command-record (ServeRead a b) (h, u .0), (command-record (DeliverRead a b) (h, u .0), exchanges-records false a bs h (u .1)))
+exchanges-records true a (b ∷ bs) h u =
+    (command-record (ServeWrite a b) (h, u .0), (command-record (DeliverWrite a b) (h, u .0), exchanges-records true a bs h (u .1)))
+
+-- the plan is made of records of 8 bytes
+pub plan-records : (f : Floor) (s v : ℕ) → s < 256 → v < 4294967296 → roundOf f s ≤ 65535 → f .used < 256 → f .n ≤ 256 → AllRecords (planOf f s v)
+unfolding planOf lowest
+plan-records f s v hs hv hr hu hn =
+    let u = below-take 256 (quorum (f .n)) (answering f) (answering-below 256 (f .boxes) (f .n) 0 (omega arith)) in (
+      command-record (Begin s (roundOf f s) v) (hs, omega arith, hv),
+      all-append (exchanges false (f .used) _) _ (exchanges-records false (f .used) _ hu u) (exchanges-records true (f .used) _ hu u),
+    )

@@ -1,0 +1,224 @@
+//! compare PROGRAM COUNT SEED FOLDER [coverage]: runs PROGRAM on COUNT generated drill files and compares what it prints with the
+//! reference, byte for byte; on each played file it also looks for demand 3's safety claims in the reference's trace. A file on
+//! which something differs is left in FOLDER.
+mod generate;
+mod reference;
+
+use reference::{Phase, Played, Said, State, Step};
+use std::collections::BTreeMap;
+use std::io::Write;
+use std::path::Path;
+use std::process::{Command, Stdio};
+use std::sync::atomic::{AtomicBool, Ordering};
+use std::time::Duration;
+
+/// What the files of a comparison reached: how many files for each thing reached.
+type Coverage = BTreeMap<String, usize>;
+
+fn main() {
+    let words: Vec<String> = std::env::args().collect();
+    let (program, folder) = (&words[1], Path::new(&words[4]));
+    let count: u64 = words[2].parse().expect("COUNT is a number");
+    let seed: u64 = words[3].parse().expect("SEED is a number");
+    assert_eq!(reference::report(&document_example()), DOCUMENT_LINES, "the reference does not print document 01's example");
+    let workers = std::thread::available_parallelism().map_or(1, |n| n.get()) as u64;
+    let failed = AtomicBool::new(false);
+    let work = |worker: u64| {
+        let mut reached = Coverage::new();
+        for number in (worker..count).step_by(workers as usize) {
+            if failed.load(Ordering::Relaxed) {
+                break;
+            }
+            let file = generate::file(seed, number);
+            if let Err(why) = compare(program, &file, number, &mut reached) {
+                if !failed.swap(true, Ordering::Relaxed) {
+                    println!("drill: file {number} of seed {seed}: {why}");
+                    leave(folder, number, &file, &why);
+                }
+            }
+        }
+        reached
+    };
+    let mut reached = Coverage::new();
+    std::thread::scope(|scope| {
+        let threads: Vec<_> = (0..workers).map(|w| scope.spawn(move || work(w))).collect();
+        for t in threads {
+            for (what, times) in t.join().expect("a worker ends") {
+                *reached.entry(what).or_insert(0) += times;
+            }
+        }
+    });
+    if failed.load(Ordering::Relaxed) {
+        std::process::exit(1);
+    }
+    if words.get(5).is_some() {
+        for (what, files) in &reached {
+            println!("{files:6} {what}");
+        }
+    }
+    println!("drill: {count} files compared");
+}
+
+/// Document 01's own example of a file, and what it prints.
+fn document_example() -> Vec<u8> {
+    let mut file = vec![0x00, 0x30, 0x01, 0x01, 0x01, 0x04, 0x6C, 0x75, 0x66, 0x66];
+    file.extend([0x01, 0x00, 0x00, 0x01, 0x00, 0x00, 0x00, 0x07]);
+    for kind in [2, 4, 3, 5] {
+        file.extend([kind, 0, 0, 0, 0, 0, 0, 0]);
+    }
+    file
+}
+
+const DOCUMENT_LINES: &str = "panel luff boxes 1 stations 1\nstation 0 decided 16 7\nend 5 0\n";
+
+fn leave(folder: &Path, number: u64, file: &[u8], why: &str) {
+    let path = folder.join(format!("{number}.drill"));
+    let said = std::fs::create_dir_all(folder).and_then(|_| std::fs::write(&path, file));
+    match said {
+        Ok(()) => println!("drill: the file is left at {}", path.display()),
+        Err(e) => println!("drill: the file could not be left: {e}"),
+    }
+    let _ = std::fs::write(path.with_extension("why"), why);
+}
+
+fn compare(program: &str, file: &[u8], number: u64, reached: &mut Coverage) -> Result<(), String> {
+    let expected = match reference::parts(file) {
+        Err(refusal) => {
+            note(reached, &format!("refusal {refusal:2}"));
+            reference::report(file)
+        }
+        Ok(parts) => {
+            let played = reference::play(&parts);
+            claims(&played).map_err(|claim| format!("in the reference's own trace {claim}"))?;
+            cover(&played, reached);
+            reference::lines(&parts, &played)
+        }
+    };
+    let printed = run(program, file, number % 64 == 5)?;
+    if printed != expected.as_bytes() {
+        return Err(format!("expected\n{expected}printed\n{}", String::from_utf8_lossy(&printed)));
+    }
+    Ok(())
+}
+
+/// What the program prints on a file. In pieces: the file comes through the pipe in three parts.
+fn run(program: &str, file: &[u8], pieces: bool) -> Result<Vec<u8>, String> {
+    let mut child = Command::new(program)
+        .stdin(Stdio::piped())
+        .stdout(Stdio::piped())
+        .spawn()
+        .map_err(|e| format!("the program does not start: {e}"))?;
+    let mut input = child.stdin.take().expect("it was asked for");
+    for part in file.chunks(if pieces { file.len() / 3 + 1 } else { file.len().max(1) }) {
+        // a program that has read enough may close its input
+        let _ = input.write_all(part);
+        if pieces {
+            std::thread::sleep(Duration::from_millis(1));
+        }
+    }
+    drop(input);
+    let output = child.wait_with_output().map_err(|e| e.to_string())?;
+    if !output.status.success() {
+        return Err(format!("the program ended with {}", output.status));
+    }
+    Ok(output.stdout)
+}
+
+/// Demand 3's safety claims, read off the accepted steps and what they said.
+fn claims(played: &Played) -> Result<(), String> {
+    let mut begun: Vec<(usize, u32, u32)> = Vec::new(); // station, rank, offered revision of each attempt
+    let mut highest_served = 0;
+    let mut decided: Vec<(usize, u32)> = Vec::new(); // station, revision
+    for (step, said) in &played.trace {
+        match (*step, *said) {
+            (Step::Begin { station, round, revision }, Said::Begun(number)) => {
+                if number != begun.len() {
+                    return Err(format!("attempt {number} is begun out of order"));
+                }
+                begun.push((station, round * 16 + station as u32, revision));
+            }
+            (Step::Serve { attempt, .. }, Said::Served(_)) => highest_served = highest_served.max(begun[attempt].1),
+            (Step::Deliver { phase: Phase::Write, attempt, .. }, Said::Decided(revision)) => {
+                if let Some((_, other)) = decided.iter().find(|(_, v)| *v != revision) {
+                    return Err(format!("{other} and {revision} are both decided"));
+                }
+                if !begun.iter().any(|(_, _, offer)| *offer == revision) {
+                    return Err(format!("{revision} is decided and was not offered before"));
+                }
+                decided.push((begun[attempt].0, revision));
+            }
+            (Step::Deliver { phase: Phase::Write, attempt, .. }, Said::Aborted(_)) => {
+                if highest_served <= begun[attempt].1 {
+                    return Err(format!("attempt {attempt} aborts, and no higher rank was served before"));
+                }
+            }
+            _ => {}
+        }
+    }
+    for (number, s) in played.floor.stations.iter().enumerate() {
+        let said = decided.iter().find(|(station, _)| *station == number).map(|(_, v)| *v);
+        if s.decided != said {
+            return Err(format!("station {number} shows {:?} and {said:?} was said", s.decided));
+        }
+    }
+    Ok(())
+}
+
+fn note(reached: &mut Coverage, what: &str) {
+    *reached.entry(what.to_string()).or_insert(0) += 1;
+}
+
+/// What a played file reached.
+fn cover(played: &Played, reached: &mut Coverage) {
+    let floor = &played.floor;
+    let times = |f: &dyn Fn(&Said) -> bool| played.trace.iter().filter(|(_, said)| f(said)).count();
+    let decided = times(&|s| matches!(s, Said::Decided(_)));
+    let aborted = times(&|s| matches!(s, Said::Aborted(_)));
+    note(reached, &format!("refusal {:2}", played.refusal));
+    let mut all = vec![
+        ("64 attempts", floor.attempts.len() == 64),
+        ("64 attempts and a decision", floor.attempts.len() == 64 && decided > 0),
+        ("decided", decided > 0),
+        ("decided by two stations or more", decided > 1),
+        ("aborted", aborted > 0),
+        ("aborted 20 times or more", aborted >= 20),
+        ("a box stopped", times(&|s| matches!(s, Said::Stopped(_))) > 0),
+        ("a station gone", times(&|s| matches!(s, Said::Gone(_))) > 0),
+        ("gone after deciding", floor.stations.iter().any(|s| s.state == State::Gone && s.decided.is_some())),
+        ("1,000 accepted steps or more", played.trace.len() >= 1000),
+    ];
+    let (mut late, mut adopted, mut differ) = (false, false, false);
+    let mut over = vec![false; floor.attempts.len()];
+    let mut writes: Vec<u32> = Vec::new();
+    for (step, said) in &played.trace {
+        match (*step, *said) {
+            (Step::Serve { attempt, .. }, _) => late |= over[attempt],
+            (_, Said::Decided(_)) | (_, Said::Aborted(_)) => {
+                if let Step::Deliver { attempt, .. } = *step {
+                    over[attempt] = true;
+                }
+            }
+            (Step::Gone { station }, _) => {
+                for (number, a) in floor.attempts.iter().enumerate() {
+                    over[number] |= a.station == station;
+                }
+            }
+            (Step::Deliver { attempt, .. }, Said::WriteIssued(v)) => {
+                adopted |= v != floor.attempts[attempt].offer;
+                differ |= writes.iter().any(|w| *w != v);
+                writes.push(v);
+            }
+            _ => {}
+        }
+    }
+    all.push(("a request served after its attempt was over", late));
+    all.push(("a write of another's revision", adopted));
+    all.push(("writes of different revisions", differ));
+    for (what, holds) in all {
+        if holds {
+            note(reached, what);
+        }
+    }
+    note(reached, &format!("boxes {}", floor.boxes.len()));
+    note(reached, &format!("stations {:2}", floor.stations.len()));
+}

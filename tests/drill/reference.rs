@@ -1,0 +1,374 @@
+//! A second implementation of the program `drill`, written from document 01 alone. It reads a drill file from standard input and
+//! prints what document 01 says. The comparison in compare.rs uses it as a module and also looks at the trace that it keeps.
+#![allow(dead_code)]
+
+use std::fmt::Write as _;
+use std::io::{Read, Write as _};
+
+/// The number of a refusal in document 01, "Turned back, in checking order".
+pub type Refusal = u8;
+
+/// One record of a drill file.
+#[derive(Clone, Copy, Debug, PartialEq)]
+pub enum Step {
+    Begin { station: usize, round: u32, revision: u32 },
+    Serve { phase: Phase, attempt: usize, at: usize },
+    Deliver { phase: Phase, attempt: usize, from: usize },
+    Stop { at: usize },
+    Gone { station: usize },
+}
+
+#[derive(Clone, Copy, Debug, PartialEq)]
+pub enum Phase {
+    Read,
+    Write,
+}
+
+/// What an accepted step says.
+#[derive(Clone, Copy, Debug, PartialEq)]
+pub enum Said {
+    Begun(usize),
+    Served(usize),
+    Received(usize),
+    WriteIssued(u32),
+    Decided(u32),
+    Aborted(usize),
+    Stopped(usize),
+    Gone(usize),
+}
+
+/// Where a request of an attempt at one box stands.
+#[derive(Clone, Copy, Debug, PartialEq)]
+pub enum Request<A> {
+    NotIssued,
+    Waiting,
+    OnTheWay(A),
+    Received(A),
+}
+
+/// A write that a box took: its rank and its revision.
+pub type Held = Option<(u32, u32)>;
+
+#[derive(Clone, Debug)]
+pub struct StorageBox {
+    pub read_rank: u32,
+    pub held: Held,
+    pub stopped: bool,
+}
+
+#[derive(Clone, Copy, Debug, PartialEq)]
+pub enum State {
+    Idle,
+    Reading(usize),
+    Writing(usize),
+    Decided,
+    Gone,
+}
+
+#[derive(Clone, Debug)]
+pub struct Station {
+    pub state: State,
+    pub last_round: u32,
+    pub last_rank: u32,
+    pub decided: Option<u32>,
+}
+
+#[derive(Clone, Debug)]
+pub struct Attempt {
+    pub station: usize,
+    pub rank: u32,
+    pub offer: u32,
+    pub written: Option<u32>,
+    pub reads: Vec<Request<Held>>,
+    pub writes: Vec<Request<bool>>,
+}
+
+#[derive(Clone, Debug)]
+pub struct Floor {
+    pub boxes: Vec<StorageBox>,
+    pub stations: Vec<Station>,
+    pub attempts: Vec<Attempt>,
+}
+
+pub const MOST_ATTEMPTS: usize = 64;
+
+impl StorageBox {
+    /// Figure 3, read: the read rank becomes the larger of itself and the rank.
+    fn read(&mut self, rank: u32) -> Held {
+        self.read_rank = self.read_rank.max(rank);
+        self.held
+    }
+
+    /// Figure 3, write: taken if read rank ≤ rank and write rank < rank.
+    fn write(&mut self, rank: u32, revision: u32) -> bool {
+        let write_rank = self.held.map_or(0, |(r, _)| r);
+        let taken = self.read_rank <= rank && write_rank < rank;
+        if taken {
+            self.held = Some((rank, revision));
+        }
+        taken
+    }
+}
+
+impl Floor {
+    pub fn new(n: usize, m: usize) -> Floor {
+        let storage_box = StorageBox { read_rank: 0, held: None, stopped: false };
+        let station = Station { state: State::Idle, last_round: 0, last_rank: 0, decided: None };
+        Floor { boxes: vec![storage_box; n], stations: vec![station; m], attempts: Vec::new() }
+    }
+
+    /// q: n / 2 rounded down, plus 1.
+    pub fn quorum(&self) -> usize {
+        self.boxes.len() / 2 + 1
+    }
+
+    pub fn step(&mut self, step: Step) -> Result<Said, Refusal> {
+        match step {
+            Step::Begin { station, round, revision } => self.begin(station, round, revision),
+            Step::Serve { phase, attempt, at } => self.serve(phase, attempt, at),
+            Step::Deliver { phase: Phase::Read, attempt, from } => self.deliver_read(attempt, from),
+            Step::Deliver { phase: Phase::Write, attempt, from } => self.deliver_write(attempt, from),
+            Step::Stop { at } => {
+                let b = self.boxes.get_mut(at).ok_or(8)?;
+                if b.stopped {
+                    return Err(13);
+                }
+                b.stopped = true;
+                Ok(Said::Stopped(at))
+            }
+            Step::Gone { station } => {
+                let s = self.stations.get_mut(station).ok_or(8)?;
+                if s.state == State::Gone {
+                    return Err(9);
+                }
+                s.state = State::Gone;
+                Ok(Said::Gone(station))
+            }
+        }
+    }
+
+    fn begin(&mut self, station: usize, round: u32, revision: u32) -> Result<Said, Refusal> {
+        let s = self.stations.get_mut(station).ok_or(8)?;
+        match s.state {
+            State::Gone => return Err(9),
+            State::Reading(_) | State::Writing(_) | State::Decided => return Err(10),
+            State::Idle => {}
+        }
+        if revision == 0 || round == 0 || round <= s.last_round {
+            return Err(11);
+        }
+        if self.attempts.len() >= MOST_ATTEMPTS {
+            return Err(12);
+        }
+        let number = self.attempts.len();
+        let rank = round * 16 + station as u32;
+        s.state = State::Reading(number);
+        s.last_round = round;
+        s.last_rank = rank;
+        let n = self.boxes.len();
+        self.attempts.push(Attempt {
+            station,
+            rank,
+            offer: revision,
+            written: None,
+            reads: vec![Request::Waiting; n],
+            writes: vec![Request::NotIssued; n],
+        });
+        Ok(Said::Begun(number))
+    }
+
+    fn serve(&mut self, phase: Phase, number: usize, at: usize) -> Result<Said, Refusal> {
+        let attempt = self.attempts.get_mut(number).ok_or(8)?;
+        let b = self.boxes.get_mut(at).ok_or(8)?;
+        if b.stopped {
+            return Err(13);
+        }
+        match phase {
+            Phase::Read => {
+                if attempt.reads[at] != Request::Waiting {
+                    return Err(14);
+                }
+                attempt.reads[at] = Request::OnTheWay(b.read(attempt.rank));
+            }
+            Phase::Write => {
+                if attempt.writes[at] != Request::Waiting {
+                    return Err(14);
+                }
+                let revision = attempt.written.expect("a write that waits was issued");
+                attempt.writes[at] = Request::OnTheWay(b.write(attempt.rank, revision));
+            }
+        }
+        Ok(Said::Served(number))
+    }
+
+    fn deliver_read(&mut self, number: usize, from: usize) -> Result<Said, Refusal> {
+        let q = self.quorum();
+        let attempt = self.attempts.get_mut(number).ok_or(8)?;
+        if from >= self.boxes.len() {
+            return Err(8);
+        }
+        let station = &mut self.stations[attempt.station];
+        if station.state == State::Gone {
+            return Err(9);
+        }
+        let Request::OnTheWay(answer) = attempt.reads[from] else { return Err(14) };
+        attempt.reads[from] = Request::Received(answer);
+        let answers = received(&attempt.reads);
+        if station.state != State::Reading(number) || answers.len() != q {
+            return Ok(Said::Received(number));
+        }
+        // the highest write rank among the q, of equals the lowest-numbered box's; an answer that holds nothing has rank 0
+        let mut best: Held = None;
+        for held in answers {
+            if held.map_or(0, |(r, _)| r) > best.map_or(0, |(r, _)| r) {
+                best = held;
+            }
+        }
+        let revision = best.map_or(attempt.offer, |(_, v)| v);
+        attempt.written = Some(revision);
+        attempt.writes.fill(Request::Waiting);
+        station.state = State::Writing(number);
+        Ok(Said::WriteIssued(revision))
+    }
+
+    fn deliver_write(&mut self, number: usize, from: usize) -> Result<Said, Refusal> {
+        let q = self.quorum();
+        let attempt = self.attempts.get_mut(number).ok_or(8)?;
+        if from >= self.boxes.len() {
+            return Err(8);
+        }
+        let station = &mut self.stations[attempt.station];
+        if station.state == State::Gone {
+            return Err(9);
+        }
+        let Request::OnTheWay(answer) = attempt.writes[from] else { return Err(14) };
+        attempt.writes[from] = Request::Received(answer);
+        let answers = received(&attempt.writes);
+        if station.state != State::Writing(number) || answers.len() != q {
+            return Ok(Said::Received(number));
+        }
+        if answers.iter().all(|taken| *taken) {
+            station.state = State::Decided;
+            station.decided = attempt.written;
+            Ok(Said::Decided(attempt.written.expect("its write was issued")))
+        } else {
+            station.state = State::Idle;
+            Ok(Said::Aborted(number))
+        }
+    }
+}
+
+/// The answers received so far, in order of the boxes.
+fn received<A: Copy>(requests: &[Request<A>]) -> Vec<A> {
+    requests.iter().filter_map(|r| if let Request::Received(a) = r { Some(*a) } else { None }).collect()
+}
+
+/// A record of 8 bytes as a step, or refusal 7.
+pub fn decode(record: &[u8]) -> Result<Step, Refusal> {
+    let zero = |from: usize| record[from..].iter().all(|b| *b == 0);
+    let (one, two) = (record[1] as usize, record[2] as usize);
+    let step = match record[0] {
+        1 => Step::Begin {
+            station: one,
+            round: u16::from_be_bytes([record[2], record[3]]) as u32,
+            revision: u32::from_be_bytes([record[4], record[5], record[6], record[7]]),
+        },
+        2 if zero(3) => Step::Serve { phase: Phase::Read, attempt: one, at: two },
+        3 if zero(3) => Step::Serve { phase: Phase::Write, attempt: one, at: two },
+        4 if zero(3) => Step::Deliver { phase: Phase::Read, attempt: one, from: two },
+        5 if zero(3) => Step::Deliver { phase: Phase::Write, attempt: one, from: two },
+        6 if zero(2) => Step::Stop { at: one },
+        7 if zero(2) => Step::Gone { station: one },
+        _ => return Err(7),
+    };
+    Ok(step)
+}
+
+/// The parts of a file that is not refused before its records.
+pub struct Parts<'a> {
+    pub n: usize,
+    pub m: usize,
+    pub label: &'a str,
+    pub records: std::slice::Chunks<'a, u8>,
+}
+
+pub fn parts(file: &[u8]) -> Result<Parts<'_>, Refusal> {
+    if file.len() < 6 || file.len() > 32_806 {
+        return Err(1);
+    }
+    if u16::from_be_bytes([file[0], file[1]]) as usize != file.len() - 2 {
+        return Err(1);
+    }
+    if file[2] != 1 {
+        return Err(2);
+    }
+    let (n, m) = (file[3] as usize, file[4] as usize);
+    if !(1..=9).contains(&n) || !(1..=16).contains(&m) {
+        return Err(3);
+    }
+    let length = file[5] as usize;
+    if !(1..=32).contains(&length) {
+        return Err(4);
+    }
+    let label = file.get(6..6 + length).ok_or(4)?;
+    if !label.iter().all(|b| (33..=126).contains(b)) {
+        return Err(4);
+    }
+    let rest = &file[6 + length..];
+    if rest.len() % 8 != 0 || rest.len() / 8 > 4096 {
+        return Err(5);
+    }
+    Ok(Parts { n, m, label: std::str::from_utf8(label).expect("its bytes are 33 to 126"), records: rest.chunks(8) })
+}
+
+/// What became of a file whose records were played.
+pub struct Played {
+    pub floor: Floor,
+    /// The accepted steps, with what each of them said.
+    pub trace: Vec<(Step, Said)>,
+    pub refusal: Refusal,
+}
+
+pub fn play(parts: &Parts) -> Played {
+    let mut floor = Floor::new(parts.n, parts.m);
+    let mut trace = Vec::new();
+    for record in parts.records.clone() {
+        let said = decode(record).and_then(|step| floor.step(step).map(|said| (step, said)));
+        match said {
+            Ok(accepted) => trace.push(accepted),
+            Err(refusal) => return Played { floor, trace, refusal },
+        }
+    }
+    Played { floor, trace, refusal: 0 }
+}
+
+/// What the program prints.
+pub fn report(file: &[u8]) -> String {
+    match parts(file) {
+        Err(refusal) => format!("end 0 {refusal}\n"),
+        Ok(parts) => lines(&parts, &play(&parts)),
+    }
+}
+
+pub fn lines(parts: &Parts, played: &Played) -> String {
+    let mut out = String::new();
+    writeln!(out, "panel {} boxes {} stations {}", parts.label, parts.n, parts.m).unwrap();
+    for (number, s) in played.floor.stations.iter().enumerate() {
+        let state = match s.state {
+            State::Idle => "idle",
+            State::Reading(_) => "reading",
+            State::Writing(_) => "writing",
+            State::Decided => "decided",
+            State::Gone => "gone",
+        };
+        writeln!(out, "station {number} {state} {} {}", s.last_rank, s.decided.unwrap_or(0)).unwrap();
+    }
+    writeln!(out, "end {} {}", played.trace.len(), played.refusal).unwrap();
+    out
+}
+
+fn main() {
+    let mut file = Vec::new();
+    std::io::stdin().read_to_end(&mut file).expect("standard input can be read");
+    std::io::stdout().write_all(report(&file).as_bytes()).expect("standard output can be written");
+}

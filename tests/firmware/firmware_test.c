@@ -1,0 +1,302 @@
+/* Calls box_read and box_write as box firmware does, and compares answer and memory with document 01, "The box routine" and refusals 16
+ * and 17. Prints the number of checks made, or the first that fails, with exit status 1. Valid C99 and C++11. */
+#include "box_firmware.h"
+#include "box_firmware.h" /* a second time: the header's guard */
+
+#include <stdint.h>
+#include <stdio.h>
+#include <stdlib.h>
+#include <string.h>
+
+static unsigned long checks;
+
+static void check(int holds, int line, const char *what) {
+    if (!holds) {
+        fprintf(stderr, "firmware_test.c:%d: not so: %s\n", line, what);
+        exit(1);
+    }
+    checks++;
+}
+
+#define CHECK(x) check((x) ? 1 : 0, __LINE__, #x)
+
+/* ---- One call, with guard bytes on both sides of record and reply, all of them compared */
+
+#define ROOM 64
+#define AT 20 /* where record and reply begin in their rooms */
+
+struct bench {
+    uint8_t record[ROOM], reply[ROOM];             /* what is lent, amid guard bytes */
+    uint8_t record_wanted[ROOM], reply_wanted[ROOM]; /* what is to be there after the call */
+};
+
+/* Guard bytes differ from place to place, so that a byte moved is seen too. */
+static void lay_out(struct bench *b, const uint8_t *record, size_t record_len, size_t shift) {
+    size_t i;
+    for (i = 0; i < ROOM; i++) {
+        b->record[i] = (uint8_t)(0xC0 + i);
+        b->reply[i] = (uint8_t)(0x40 + i);
+    }
+    memcpy(b->record + AT + shift, record, record_len);
+    memcpy(b->record_wanted, b->record, ROOM);
+    memcpy(b->reply_wanted, b->reply, ROOM);
+}
+
+static void compare(const struct bench *b, uint32_t answer, uint32_t wanted, int line) {
+    check(answer == wanted, line, "the answer is the one wanted");
+    check(memcmp(b->record, b->record_wanted, ROOM) == 0, line, "record and guard bytes are those wanted");
+    check(memcmp(b->reply, b->reply_wanted, ROOM) == 0, line, "reply and guard bytes are those wanted");
+}
+
+/* A read or a write that is not refused: record and reply after it are given. */
+static void read_gives(const uint8_t *before, uint32_t rank, const uint8_t *after, const uint8_t *reply, int line) {
+    struct bench b;
+    lay_out(&b, before, 12, 0);
+    memcpy(b.record_wanted + AT, after, 12);
+    memcpy(b.reply_wanted + AT, reply, 8);
+    compare(&b, box_read(b.record + AT, 12, rank, b.reply + AT, 8), 0, line);
+}
+
+static void write_gives(const uint8_t *before, uint32_t rank, uint32_t revision, uint32_t wanted, const uint8_t *after, int line) {
+    struct bench b;
+    lay_out(&b, before, 12, 0);
+    memcpy(b.record_wanted + AT, after, 12);
+    compare(&b, box_write(b.record + AT, 12, rank, revision), wanted, line);
+}
+
+/* ---- The header's numbers */
+
+static void header(void) {
+    CHECK(BOX_RECORD_BYTES == 12);
+    CHECK(BOX_REPLY_BYTES == 8);
+    CHECK(BOX_DONE == 0);
+    CHECK(BOX_NOT_TAKEN == 100);
+    CHECK(BOX_REFUSED_LENGTH == 16);
+    CHECK(BOX_REFUSED_ZERO == 17);
+}
+
+/* ---- The layout, byte for byte: read rank, write rank, value, each big-endian; the reply is write rank and value */
+
+static void layout(void) {
+    static const uint8_t record[12] = {0x01, 0x02, 0x03, 0x04, 0x05, 0x06, 0x07, 0x08, 0x09, 0x0A, 0x0B, 0x0C};
+    static const uint8_t reply[8] = {0x05, 0x06, 0x07, 0x08, 0x09, 0x0A, 0x0B, 0x0C};
+    static const uint8_t raised[12] = {0xF1, 0xE2, 0xD3, 0xC4, 0x05, 0x06, 0x07, 0x08, 0x09, 0x0A, 0x0B, 0x0C};
+    static const uint8_t written[12] = {0x01, 0x02, 0x03, 0x04, 0xF1, 0xE2, 0xD3, 0xC4, 0xB5, 0xA6, 0x97, 0x88};
+    static const uint8_t zeros[12] = {0, 0, 0, 0, 0, 0, 0, 0, 0, 0, 0, 0};
+    static const uint8_t zeros_raised[12] = {0, 0, 0, 1, 0, 0, 0, 0, 0, 0, 0, 0};
+    static const uint8_t ones[12] = {0xFF, 0xFF, 0xFF, 0xFF, 0xFF, 0xFF, 0xFF, 0xFF, 0xFF, 0xFF, 0xFF, 0xFF};
+    /* one number raised by one in each byte of the read rank: which bytes a rank is compared by */
+    static const uint32_t above[4] = {0x02020304u, 0x01030304u, 0x01020404u, 0x01020305u};
+    static const uint32_t below[4] = {0x00020304u, 0x01010304u, 0x01020204u, 0x01020303u};
+    int i;
+
+    read_gives(record, 0xF1E2D3C4u, raised, reply, __LINE__);
+    read_gives(record, 0x01020304u, record, reply, __LINE__);
+    write_gives(record, 0xF1E2D3C4u, 0xB5A69788u, 0, written, __LINE__);
+    read_gives(zeros, 1, zeros_raised, zeros, __LINE__);
+    read_gives(ones, 0xFFFFFFFFu, ones, ones, __LINE__);
+    write_gives(ones, 0xFFFFFFFFu, 1, 100, ones, __LINE__);
+    for (i = 0; i < 4; i++) {
+        uint8_t after[12];
+        memcpy(after, record, 12);
+        after[i] = (uint8_t)(after[i] + 1);
+        read_gives(record, above[i], after, reply, __LINE__);
+        read_gives(record, below[i], record, reply, __LINE__);
+        write_gives(record, below[i], 9, 100, record, __LINE__);
+    }
+}
+
+/* ---- Examples C to F of document 01, and what follows on each */
+
+static void examples(void) {
+    static const uint8_t c[12] = {0, 0, 0, 16, 0, 0, 0, 0, 0, 0, 0, 0};
+    static const uint8_t c_after[12] = {0, 0, 0, 16, 0, 0, 0, 16, 0, 0, 0, 7};
+    static const uint8_t d[12] = {0, 0, 0, 17, 0, 0, 0, 0, 0, 0, 0, 0};
+    static const uint8_t d_after[12] = {0, 0, 0, 17, 0, 0, 0, 17, 0, 0, 0, 7};
+    static const uint8_t e_after[12] = {0, 0, 0, 16, 0, 0, 0, 17, 0, 0, 0, 9};
+    static const uint8_t f[12] = {0, 0, 0, 33, 0, 0, 0, 16, 0, 0, 0, 7};
+    static const uint8_t f_reply[8] = {0, 0, 0, 16, 0, 0, 0, 7};
+    static const uint8_t f_after[12] = {0, 0, 0, 34, 0, 0, 0, 16, 0, 0, 0, 7};
+
+    write_gives(c, 16, 7, 0, c_after, __LINE__);         /* C: taken, (16, 16, 7) */
+    write_gives(d, 16, 7, 100, d, __LINE__);             /* D: not taken, unchanged */
+    write_gives(d, 17, 7, 0, d_after, __LINE__);         /* with the rank of its own read it is taken */
+    write_gives(c_after, 16, 9, 100, c_after, __LINE__); /* E: not taken */
+    write_gives(c_after, 17, 9, 0, e_after, __LINE__);   /* with the next rank it is taken, and the read rank stays */
+    read_gives(f, 18, f, f_reply, __LINE__);             /* F: answer (16, 7), unchanged */
+    read_gives(f, 34, f_after, f_reply, __LINE__);       /* a higher read has the same answer and raises the read rank */
+}
+
+/* ---- Every refusal leaves record and reply as they were, byte for byte; 16 stands before 17 */
+
+static const uint8_t any[24] = {0xA1, 0xB2, 0xC3, 0xD4, 0x00, 0x11, 0x22, 0x33, 0x44, 0x55, 0x66, 0x77,
+                                0x88, 0x99, 0xAA, 0xBB, 0xCC, 0xDD, 0xEE, 0xFF, 0x12, 0x34, 0x56, 0x78};
+
+static void refused_reads(void) {
+    static const struct {
+        size_t record_len, reply_len;
+        uint32_t rank, answer;
+    } calls[] = {
+        {0, 8, 0xF0000000u, 16},  {11, 8, 0xF0000000u, 16}, {13, 8, 0xF0000000u, 16}, {24, 8, 0xF0000000u, 16},
+        {12, 0, 0xF0000000u, 16}, {12, 7, 0xF0000000u, 16}, {12, 9, 0xF0000000u, 16}, {12, 12, 0xF0000000u, 16},
+        {0, 0, 0xF0000000u, 16},  {11, 7, 0xF0000000u, 16}, {13, 9, 0xF0000000u, 16}, {8, 12, 0xF0000000u, 16},
+        {0, 8, 0, 16},            {11, 8, 0, 16},           {13, 8, 0, 16},           {12, 0, 0, 16},
+        {12, 7, 0, 16},           {12, 9, 0, 16},           {0, 0, 0, 16},            {11, 7, 0, 16},
+        {13, 9, 0, 16},           {12, 8, 0, 17},
+    };
+    size_t i;
+    for (i = 0; i < sizeof calls / sizeof calls[0]; i++) {
+        struct bench b;
+        lay_out(&b, any, calls[i].record_len, 0);
+        compare(&b, box_read(b.record + AT, calls[i].record_len, calls[i].rank, b.reply + AT, calls[i].reply_len), calls[i].answer, __LINE__);
+    }
+}
+
+static void refused_writes(void) {
+    static const struct {
+        size_t record_len;
+        uint32_t rank, revision, answer;
+    } calls[] = {
+        {0, 0xF0000000u, 9, 16}, {11, 0xF0000000u, 9, 16}, {13, 0xF0000000u, 9, 16}, {24, 0xF0000000u, 9, 16},
+        {0, 0, 9, 16},           {11, 0, 9, 16},           {13, 0, 9, 16},           {0, 0xF0000000u, 0, 16},
+        {11, 0xF0000000u, 0, 16}, {13, 0xF0000000u, 0, 16}, {0, 0, 0, 16},           {11, 0, 0, 16},
+        {13, 0, 0, 16},          {12, 0, 9, 17},           {12, 0xF0000000u, 0, 17}, {12, 0, 0, 17},
+    };
+    size_t i;
+    for (i = 0; i < sizeof calls / sizeof calls[0]; i++) {
+        struct bench b;
+        lay_out(&b, any, calls[i].record_len, 0);
+        compare(&b, box_write(b.record + AT, calls[i].record_len, calls[i].rank, calls[i].revision), calls[i].answer, __LINE__);
+    }
+}
+
+/* ---- Pseudo-random calls against Figure 3 */
+
+#define CALLS 100000
+
+static uint64_t seed = 20100725;
+
+static uint32_t number(void) { /* xorshift64*, upper half */
+    seed ^= seed >> 12;
+    seed ^= seed << 25;
+    seed ^= seed >> 27;
+    return (uint32_t)((seed * 2685821657736338717u) >> 32);
+}
+
+static uint32_t get(const uint8_t *p) {
+    return (uint32_t)p[0] << 24 | (uint32_t)p[1] << 16 | (uint32_t)p[2] << 8 | (uint32_t)p[3];
+}
+
+static void put(uint8_t *p, uint32_t x) {
+    p[0] = (uint8_t)(x >> 24);
+    p[1] = (uint8_t)(x >> 16);
+    p[2] = (uint8_t)(x >> 8);
+    p[3] = (uint8_t)x;
+}
+
+/* What came of the calls: each has to come often. */
+enum { RAISED, NOT_RAISED, TAKEN, BELOW_READ_RANK, BELOW_WRITE_RANK, AT_READ_RANK, AT_WRITE_RANK, LENGTH, ZERO, KINDS };
+static unsigned long count[KINDS];
+
+/* Figure 3's x with its rmw-read and rmw-write, as document 01 reads them. */
+struct ranked { uint32_t read, write, value; };
+
+static void figure_3_read(struct ranked *x, uint32_t r) {
+    count[x->read < r ? RAISED : NOT_RAISED]++;
+    if (x->read < r) x->read = r;
+}
+
+static uint32_t figure_3_write(struct ranked *x, uint32_t r, uint32_t v) {
+    if (x->read == r) count[AT_READ_RANK]++;
+    if (x->write == r && x->read <= r) count[AT_WRITE_RANK]++;
+    if (x->read <= r && x->write < r) {
+        x->write = r;
+        x->value = v;
+        count[TAKEN]++;
+        return 0;
+    }
+    count[x->read <= r ? BELOW_WRITE_RANK : BELOW_READ_RANK]++;
+    return 100;
+}
+
+/* The wanted record, reply and answer of a call on the bench; a reply length of 8 for a write, which has none. */
+static uint32_t wanted_of(struct bench *b, size_t shift, int write, size_t record_len, size_t reply_len, uint32_t rank, uint32_t revision) {
+    uint8_t *s = b->record_wanted + AT + shift, *p = b->reply_wanted + AT + shift;
+    struct ranked x;
+    uint32_t answer = 0;
+    if (record_len != 12 || reply_len != 8) { count[LENGTH]++; return 16; }
+    if (rank == 0 || (write && revision == 0)) { count[ZERO]++; return 17; }
+    x.read = get(s);
+    x.write = get(s + 4);
+    x.value = get(s + 8);
+    if (write) answer = figure_3_write(&x, rank, revision);
+    else figure_3_read(&x, rank);
+    put(s, x.read);
+    put(s + 4, x.write);
+    put(s + 8, x.value);
+    if (!write) { put(p, x.write); put(p + 4, x.value); }
+    return answer;
+}
+
+/* A rank: small, of any size, next to one of the record's own, or 0. */
+static uint32_t some_rank(const uint8_t *record) {
+    switch (number() % 16) {
+    case 0: return 0;
+    case 1: case 2: case 3: return number();
+    case 4: case 5: case 6: return get(record) - 1 + number() % 3;
+    case 7: case 8: case 9: return get(record + 4) - 1 + number() % 3;
+    default: return number() % 64;
+    }
+}
+
+/* A record: that of the last call, small ranks, or any bytes. */
+static void some_record(uint8_t *record) {
+    int i, k = (int)(number() % 8);
+    if (k < 5) return;
+    for (i = 0; i < 24; i++) record[i] = (uint8_t)number();
+    if (k < 7) {
+        put(record, number() % 64);
+        put(record + 4, number() % 64);
+    }
+}
+
+static size_t some_length(size_t right) {
+    return number() % 16 ? right : number() % 25;
+}
+
+static void random_calls(void) {
+    uint8_t record[24];
+    long i;
+    int k;
+    memset(record, 0, sizeof record);
+    for (i = 0; i < CALLS; i++) {
+        struct bench b;
+        int write = (int)(number() % 2);
+        size_t shift = number() % 8, record_len, reply_len;
+        uint32_t rank, revision, wanted, answer;
+        some_record(record);
+        rank = some_rank(record);
+        revision = number() % 16 ? number() : 0;
+        record_len = some_length(12);
+        reply_len = write ? 8 : some_length(8);
+        lay_out(&b, record, record_len, shift);
+        wanted = wanted_of(&b, shift, write, record_len, reply_len, rank, revision);
+        if (write) answer = box_write(b.record + AT + shift, record_len, rank, revision);
+        else answer = box_read(b.record + AT + shift, record_len, rank, b.reply + AT + shift, reply_len);
+        compare(&b, answer, wanted, __LINE__);
+        if (record_len == 12) memcpy(record, b.record + AT + shift, 12);
+    }
+    for (k = 0; k < KINDS; k++) CHECK(count[k] >= CALLS / 100);
+    CHECK(count[RAISED] + count[NOT_RAISED] + count[TAKEN] + count[BELOW_READ_RANK] + count[BELOW_WRITE_RANK] + count[LENGTH] + count[ZERO] == CALLS);
+}
+
+int main(void) {
+    header();
+    layout();
+    examples();
+    refused_reads();
+    refused_writes();
+    random_calls();
+    printf("%lu\n", checks);
+    return 0;
+}
