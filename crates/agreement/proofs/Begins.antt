@@ -10,7 +10,7 @@ use Rattle.base.specs.Numbers.{rankOf}
 use Rattle.protocol.specs.Trace.{took, note, Edit, there, other, other-event}
 use Rattle.protocol.proofs.MaskLaws.{bit-zero}
 use Rattle.floor.specs.State.{station0, row0, readSlot0, writeSlot0, stationAt, rowAt}
-use Rattle.floor.specs.Sound.{Sound}
+use Rattle.floor.specs.Sound.{Sound, Lengths}
 use Rattle.floor.specs.Rows.{readsWaiting, newRow}
 use Rattle.floor.specs.declared.Station.{Station}
 use Rattle.floor.specs.declared.ReadSlot.{ReadSlot}
@@ -20,7 +20,7 @@ use Rattle.floor.specs.declared.Floor.{Floor}
 use Rattle.floor.proofs.Standings.{clash}
 use Rattle.floor.proofs.Forms.{beginner, afterBegin}
 use Rattle.floor.proofs.View.{CanBegin}
-use Rattle.floor.proofs.Keeps.{Lengths, row-stored, station-stored}
+use Rattle.floor.proofs.Keeps.{row-stored, station-stored}
 use Rattle.floor.proofs.Stores.{set-all, set-in, edit-set, getD-same}
 use Rattle.agreement.proofs.History.{offered, Happening, History, Unwritten, unwritten-more, isAnswered, isIssued, Paired, RowShows, station-kept-by, stations-stored, Shows, row-more}
 use Rattle.agreement.proofs.Serves.{StepTo}

@@ -8,7 +8,7 @@ use mathlib.Core.List.{List·Memᴰ}
 use Rattle.protocol.specs.View.{Chosen}
 use Rattle.protocol.specs.Trace.{took, refused, note, other-event}
 use Rattle.floor.specs.State.{rowAt, writeAt, isWriting, atQuorum}
-use Rattle.floor.specs.Sound.{Sound}
+use Rattle.floor.specs.Sound.{Sound, Lengths}
 use Rattle.floor.specs.Rows.{allTaken}
 use Rattle.floor.specs.Effects.{withState}
 use Rattle.floor.specs.declared.Phase.the-variants.{Idle}
@@ -17,7 +17,6 @@ use Rattle.floor.specs.declared.Floor.{Floor}
 use Rattle.floor.proofs.Standings.{clash, arrives-means}
 use Rattle.floor.proofs.Forms.{withRow, ownerAt, writeHeard, decider, afterDecision, afterAbort}
 use Rattle.floor.proofs.View.{CanDeliver}
-use Rattle.floor.proofs.Keeps.{Lengths}
 use Rattle.floor.proofs.Answers.{quorum-majority, taken-means, taken-not}
 use Rattle.agreement.proofs.History.{quiet, History, isAnswered, RowShows, Shows, row-more}
 use Rattle.agreement.proofs.Serves.{StepTo}

@@ -10,7 +10,7 @@ use Rattle.protocol.specs.View.{View}
 use Rattle.protocol.specs.Trace.{note, view, other-event}
 use Rattle.protocol.proofs.MaskLaws.{added}
 use Rattle.floor.specs.State.{stationAt, rowAt, readAt, writeAt, isReading, isWriting}
-use Rattle.floor.specs.Sound.{Sound}
+use Rattle.floor.specs.Sound.{Sound, Lengths}
 use Rattle.floor.specs.Effects.{rowHeardRead, rowHeardWrite}
 use Rattle.floor.specs.declared.Phase.{Phase}
 use Rattle.floor.specs.declared.Phase.the-variants.{Reading, Writing}
@@ -19,7 +19,6 @@ use Rattle.floor.specs.declared.Row.{Row}
 use Rattle.floor.specs.declared.Floor.{Floor}
 use Rattle.floor.proofs.Standings.{is-reading, is-writing}
 use Rattle.floor.proofs.Forms.{withStation, withRow, ownerAt}
-use Rattle.floor.proofs.Keeps.{Lengths}
 use Rattle.agreement.proofs.History.{quiet, Happening, History, Offered, boxesOf, writerOf, isAnswered, RowShows, StationShows, station-kept-by, stations-stored, last-stored, Shows, row-more, shows-stored}
 use Rattle.agreement.proofs.Serves.{StepTo, stations-kept}
 

@@ -21,7 +21,8 @@ use Rattle.floor.specs.declared.Outcome.the-variants as said
 use Rattle.floor.proofs.Standings.{clash}
 use Rattle.floor.proofs.Encodings.{decode-encode}
 use Rattle.floor.proofs.View.{StepView, turned, began, step-view}
-use Rattle.floor.proofs.Keeps.{Lengths, row-stored}
+use Rattle.floor.specs.Sound.{Lengths}
+use Rattle.floor.proofs.Keeps.{row-stored}
 use Rattle.floor.proofs.RowLaws.{apply-used, row-same}
 use Rattle.solo.specs.Plan.{roundOf, planOf}
 use Rattle.solo.specs.Solo.{soloOf}

@@ -20,7 +20,7 @@ use Rattle.floor.specs.declared.ReadSlot.{ReadSlot}
 use Rattle.floor.specs.declared.WriteSlot.{WriteSlot}
 use Rattle.floor.specs.declared.Row.{Row}
 use Rattle.floor.specs.declared.Floor.{Floor}
-use Rattle.floor.proofs.Keeps.{Lengths}
+use Rattle.floor.specs.Sound.{Lengths}
 use Rattle.floor.proofs.Stores.{set-all, set-in}
 
 -- What a history keeps besides reads and writes: a revision offered, or nothing.

@@ -12,7 +12,7 @@ use Rattle.protocol.specs.View.{MayIssue}
 use Rattle.protocol.specs.Trace.{read, issued, took, note, issue}
 use Rattle.protocol.proofs.MaskLaws.{bit-zero}
 use Rattle.floor.specs.State.{row0, writeSlot0, rowAt, readAt, writeAt, isReading, atQuorum}
-use Rattle.floor.specs.Sound.{Sound}
+use Rattle.floor.specs.Sound.{Sound, Lengths}
 use Rattle.floor.specs.Rows as rows
 use Rattle.floor.specs.Rows.{noBest, bestFrom, bestOf, revisionFrom, revisionOf, writeWaiting, writesWaiting}
 use Rattle.floor.specs.Effects.{withState}
@@ -26,7 +26,7 @@ use Rattle.floor.specs.declared.Floor.{Floor}
 use Rattle.floor.proofs.Standings.{clash, arrives-means}
 use Rattle.floor.proofs.Forms.{withRow, ownerAt, readHeard, afterIssue}
 use Rattle.floor.proofs.View.{CanDeliver}
-use Rattle.floor.proofs.Keeps.{Lengths, used-stored}
+use Rattle.floor.proofs.Keeps.{used-stored}
 use Rattle.floor.proofs.Stores.{set-all}
 use Rattle.floor.proofs.Answers.{quorum-majority, Found, nothing, highest, best-found, revision-offer, revision-value, revision-either}
 use Rattle.agreement.proofs.History.{quiet, History, isAnswered, isIssued, RowShows, Shows, reads-more}

@@ -1,5 +1,5 @@
 -- The claims of demand 3 for a played file.
-use Prim.Native.Nat.{ℕ, _≤_, _<_}
+use Prim.Native.Nat.{ℕ, _<_}
 use native.Mathlib.Omega.{arith}
 use native.Mathlib.Decide.{ℕ-discrete}
 use mathlib.Core.Path.{_≡_, refl, sym, ap, subst, _∙_}
@@ -8,14 +8,14 @@ use lib.ListN.{length, take, getD, replicate}
 use lib.Seq.{length-take-le}
 use Rattle.floor.specs.State.{stationAt, station0}
 use Rattle.floor.specs.Floors.{emptyFloor}
-use Rattle.floor.specs.Runs.{runOf, after, Told}
-use Rattle.floor.proofs.RunMeans.{run-told}
+use Rattle.floor.specs.Runs.{Told}
 use Rattle.floor.proofs.Stores.{getD-same}
 use Rattle.floor.specs.declared.Floor.{Floor}
 use Rattle.floor.specs.declared.Station.{Station}
+use Rattle.floor.specs.declared.Ran.{Ran}
 use Rattle.drill_file.specs.DrillFile.{boxesOf, stationsOf, fileRefusal, recordsOf}
 use Rattle.player.specs.Played.{ofRun, playedOf}
-use Rattle.player.proofs.PlayLaws.{played-accepted, played-refused}
+use Rattle.player.proofs.PlayLaws.{played-refused, played-told}
 use Rattle.player.specs.declared.Played.{Played}
 use Rattle.agreement.specs.Words.{Before, OfferedAt, DecidesAt, floorLeft}
 use Rattle.agreement.specs.Demand.{firstFloor, Safety}
@@ -40,19 +40,14 @@ module _ (s : List ℕ) (e : fileRefusal s ≡ 0) where
   abbrev first : Floor
   first = firstFloor (boxesOf s) (stationsOf s)
 
-  told : Told first (recordsOf s) (runOf first (recordsOf s) .accepted) (runOf first (recordsOf s))
-  told = run-told first (recordsOf s)
-
-  count : playedOf s .accepted ≡ runOf first (recordsOf s) .accepted
-  count = ap (λ (x : Played). x .accepted) (played-accepted s e)
+  told : (x : Ran) × (playedOf s ≡ ofRun x) × Told first (recordsOf s) (playedOf s .accepted) x
+  told = played-told s e
 
   size : length (acceptedIn s) ≡ playedOf s .accepted
-  size = length-take-le (playedOf s .accepted) (recordsOf s) (subst (λ (i : ℕ). i ≤ length (recordsOf s)) (sym count) (told .within))
+  size = length-take-le (playedOf s .accepted) (recordsOf s) (told .2 .within)
 
   left : playedOf s .floor ≡ floorLeft first (acceptedIn s)
-  left =
-      ap (λ (x : Played). x .floor) (played-accepted s e) ∙ told .left
-      ∙ ap (λ (i : ℕ). after first (take i (recordsOf s))) (sym count) ∙ sym (left-after first (acceptedIn s))
+  left = ap (λ (x : Played). x .floor) (told .1) ∙ told .2 .left ∙ sym (left-after first (acceptedIn s))
 
   safe : Safety (boxesOf s) (stationsOf s) (acceptedIn s)
   safe = safety (boxesOf s) (stationsOf s) (acceptedIn s)

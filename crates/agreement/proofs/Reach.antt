@@ -14,7 +14,7 @@ use Rattle.protocol.specs.Trace.{read, issued, took, refused, note, other-event
 use Rattle.protocol.proofs.Runs.{run-inv}
 use Rattle.protocol.proofs.Instances.{equality}
 use Rattle.floor.specs.State.{box0, station0, boxAt, stationAt, rowAt}
-use Rattle.floor.specs.Sound.{Sound}
+use Rattle.floor.specs.Sound.{Sound, Lengths}
 use Rattle.floor.specs.Floors.{emptyFloor, newFloorOf}
 use Rattle.floor.specs.Rows.{revisionOf}
 use Rattle.floor.specs.Effects.{withState}
@@ -29,7 +29,7 @@ use Rattle.floor.specs.declared.Outcome.the-variants as said
 use Rattle.floor.proofs.Forms.{readHeard, afterStop, afterLeave}
 use Rattle.floor.proofs.View.{CanLeave, StepView, turned, began, read-served, write-served, read-heard, issued, write-heard, decided, aborted, stopped, left}
 use Rattle.floor.proofs.View as view
-use Rattle.floor.proofs.Keeps.{Lengths, empty-lengths}
+use Rattle.floor.proofs.Keeps.{empty-lengths}
 use Rattle.floor.proofs.Stores.{set-all, getD-same}
 use Rattle.agreement.proofs.History.{offered, quiet, Happening, History, Offered, offered-stays, toBox, boxesOf, stations-stored, last-stored, Shows, shows-kept}
 use Rattle.agreement.proofs.Serves.{StepTo, boxes-paired, readEvent, wroteEvent, writeEvent, serve-read-step, serve-write-step}

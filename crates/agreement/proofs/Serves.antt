@@ -16,7 +16,7 @@ use Rattle.register.proofs.RegisterLaws.{takes-means, takes-not}
 use Rattle.protocol.specs.Mask.{bit}
 use Rattle.protocol.specs.Trace.{Box, readBox, writeBox, read, took, refused, Edit, there, other, Step, serve-read, take, refuse}
 use Rattle.floor.specs.State.{box0, readSlot0, writeSlot0, boxAt, stationAt, rowAt, writeAt}
-use Rattle.floor.specs.Sound.{Sound}
+use Rattle.floor.specs.Sound.{Sound, Lengths}
 use Rattle.floor.specs.Effects.{withRegister, withWrites, rowServedRead}
 use Rattle.floor.specs.declared.Stage.the-variants.{Answered}
 use Rattle.floor.specs.declared.ReadSlot.{ReadSlot}
@@ -26,7 +26,6 @@ use Rattle.floor.specs.declared.Floor.{Floor}
 use Rattle.floor.proofs.Standings.{clash, waits-means}
 use Rattle.floor.proofs.Forms.{withBox, withRow, afterServeRead, afterServeWrite}
 use Rattle.floor.proofs.View.{CanServe}
-use Rattle.floor.proofs.Keeps.{Lengths}
 use Rattle.floor.proofs.Stores.{set-all, set-in, edit-set}
 use Rattle.agreement.proofs.History.{Happening, History, Offered, toBox, boxesOf, writerOf, isAnswered, isIssued, Paired, RowShows, StationShows, station-kept-by, Shows, reads-more, writes-more, shows-stored}
 

@@ -12,7 +12,7 @@ use Rattle.base.specs.Numbers.{sizesRight}
 use Rattle.base.proofs.Choices.{by-test}
 use Rattle.register.specs.declared.StorageBox.{StorageBox}
 use Rattle.floor.specs.State.{box0, station0, row0, unusedRow, rowAt}
-use Rattle.floor.specs.Sound.{soundOf, Sound}
+use Rattle.floor.specs.Sound.{soundOf, Sound, Lengths}
 use Rattle.floor.specs.Floors.{emptyFloor, newFloorOf}
 use Rattle.floor.specs.Rows.{readsWaiting, newRow, writesWaiting}
 use Rattle.floor.specs.Rows as rows
@@ -137,14 +137,6 @@ effect-said p (DeliverWrite a b) e = by-test Said _ _ _ (λ _. by-test Said _ _ 
 effect-said p (Stop b) e = refl
 effect-said p (Leave s) e = refl
 effect-said p Malformed e = absurd (omega (arith, e))
-
--- The arrays have their lengths: those of the types, which no step changes.
-pub record Lengths (f : Floor) : Type 0 where
-  pub boxes : length (f .boxes) ≡ 9
-  pub stations : length (f .stations) ≡ 16
-  pub rows : length (f .rows) ≡ 64
-  pub reads : (a : ℕ) → a < 64 → length (rowAt f a .reads) ≡ 9
-  pub writes : (a : ℕ) → a < 64 → length (rowAt f a .writes) ≡ 9
 
 pub reads-length : (k : ℕ) → length (readsWaiting k) ≡ 9
 unfolding readsWaiting

@@ -20,7 +20,8 @@ use Rattle.floor.specs.declared.Command.{Command}
 use Rattle.floor.specs.declared.Command.the-variants.{Begin, ServeRead, ServeWrite, DeliverRead, DeliverWrite, Stop, Leave}
 use Rattle.floor.proofs.Forms.{ownerAt, readHeard, writeHeard, beginner, decider}
 use Rattle.floor.proofs.View.{CanBegin, CanServe, CanDeliver, CanStop, CanLeave, TurnedBack, StepView, turned, began, read-served, write-served, read-heard, issued, write-heard, decided, aborted, stopped, left, apply-view}
-use Rattle.floor.proofs.Keeps.{Lengths, row-stored, station-stored, owner-stored, box-stored, used-stored}
+use Rattle.floor.specs.Sound.{Lengths}
+use Rattle.floor.proofs.Keeps.{row-stored, station-stored, owner-stored, box-stored, used-stored}
 
 module _ (f : Floor) (c : Command) (g : Floor) where
   pub record BegunBy (a : ℕ) : Type 0 where

@@ -21,7 +21,8 @@ use Rattle.floor.proofs.Standings.{clash, arrives-means}
 use Rattle.floor.proofs.Forms.{readHeard, writeHeard}
 use Rattle.floor.proofs.View.{CanDeliver, StepView, turned, began, read-served, write-served, read-heard, issued, write-heard, decided, aborted, stopped, left, apply-view}
 use Rattle.floor.proofs.Moves.{RowMove, row-kept, row-begins, row-read, row-written, row-read-heard, row-issues, row-write-heard, apply-row}
-use Rattle.floor.proofs.Keeps.{Lengths, used-stored}
+use Rattle.floor.specs.Sound.{Lengths}
+use Rattle.floor.proofs.Keeps.{used-stored}
 
 -- how many rows a thing said puts into use
 abbrev pub begins : Outcome → ℕ

@@ -2,7 +2,8 @@
 use Prim.Native.Nat.{ℕ, zero, suc, _<_, _≤_}
 use mathlib.Core.List.{List}
 use mathlib.Core.Bool.{Bool, true, false}
-use lib.ListN.{getD}
+use mathlib.Core.Path.{_≡_}
+use lib.ListN.{length, getD}
 use lib.Dec.{ltb}
 use Rattle.base.specs.Choice.{if_then_else_}
 use Rattle.base.specs.Numbers.{sizesRight}
@@ -30,3 +31,11 @@ pub record Sound (f : Floor) : Type 0 where
   pub station-most : f .m ≤ 16
   pub rows-most : f .used ≤ 64
   pub stations : (a : ℕ) → a < f .used → rowAt f a .station < f .m
+
+-- The arrays have their lengths: those of the types, which no step changes.
+pub record Lengths (f : Floor) : Type 0 where
+  pub boxes : length (f .boxes) ≡ 9
+  pub stations : length (f .stations) ≡ 16
+  pub rows : length (f .rows) ≡ 64
+  pub reads : (a : ℕ) → a < 64 → length (rowAt f a .reads) ≡ 9
+  pub writes : (a : ℕ) → a < 64 → length (rowAt f a .writes) ≡ 9

@@ -99,3 +99,7 @@ applyOf f c = if soundOf f then playOf f c else refused f 6
 -- "A single step is handed in as its 8-byte record, by value."
 unfoldable pub stepOf : Floor → List ℕ → Stepped
 stepOf f r = applyOf f (commandOf r)
+
+-- the number of the refusal of a step, 0 where it is accepted: what `numberOf` gives of its outcome
+unfoldable pub refusalOf : Floor → List ℕ → ℕ
+refusalOf f r = if soundOf f then refusalIn (look f (commandOf r)) (commandOf r) else 6

@@ -7,7 +7,7 @@ ghost use lib.ListN.{length};
 ghost use Prim.Native.Nat.{_*_, _/_, _≤_};
 ghost use Rattle.floor.specs.Floors.{emptyFloor, newFloorOf};
 ghost use Rattle.floor.specs.Sound.{stationsBelow, soundOf, Sound};
-ghost use Rattle.floor.specs.Step.{applyOf, stepOf};
+ghost use Rattle.floor.specs.Step.{applyOf, stepOf, numberOf, refusalOf};
 ghost use Rattle.base.specs.Records.{recordsFrom};
 ghost use Rattle.floor.specs.Runs.{runOf};
 use register::Register;
@@ -24,6 +24,7 @@ pub use states::busy;
 pub use states::gone;
 pub use states::number;
 pub use states::refused;
+pub use states::value;
 
 // What a station does, with the attempt that it is in.
 pub enum Phase {
@@ -288,7 +289,8 @@ pub fn run(f: Floor, records: &[u8]) -> Ran
 
 // A single step, handed in as its 8-byte record: a run of one.
 pub fn step(f: Floor, bytes: [u8; 8]) -> Stepped
-    ensures { λ r. ⌜ r ≡ stepOf f bytes ⌝ }
+    ensures stepped { λ r. ⌜ r ≡ stepOf f bytes ⌝ }
+    ensures number { λ r. ⌜ numberOf (r .outcome) ≡ refusalOf f bytes ⌝ }
 {
     let ran = run(f, &bytes);
     let floor = ran.floor;

@@ -4,7 +4,7 @@ ghost use mathlib.Core.Bool.{false};
 ghost use Prim.Native.Nat.{_<_};
 ghost use Rattle.base.specs.Choice.{if_then_else_};
 ghost use Rattle.floor.specs.State.{isGone, isBusy, isReading, isWriting, standing, isWaiting, isOnTheWay};
-ghost use Rattle.floor.specs.Step.{numberOf, isRefused};
+ghost use Rattle.floor.specs.Step.{numberOf, valueOf, isRefused};
 use crate::Outcome;
 use crate::Phase;
 use crate::Stage;
@@ -110,6 +110,23 @@ pub fn number(o: Outcome) -> u8
         Outcome::Stopped(_) => 0,
         Outcome::Gone(_) => 0,
         Outcome::Refused(k) => k,
+    }
+}
+
+// Document 01's value of an outcome: the attempt, revision, box or station that it names, 0 for a refusal.
+pub fn value(o: Outcome) -> u32
+    ensures { λ r. ⌜ r ≡ valueOf o ⌝ }
+{
+    match o {
+        Outcome::Begun(a) => a as u32,
+        Outcome::Served(a) => a as u32,
+        Outcome::Received(a) => a as u32,
+        Outcome::Aborted(a) => a as u32,
+        Outcome::WriteIssued(v) => v,
+        Outcome::Decided(v) => v,
+        Outcome::Stopped(b) => b as u32,
+        Outcome::Gone(s) => s as u32,
+        Outcome::Refused(_) => 0,
     }
 }
 

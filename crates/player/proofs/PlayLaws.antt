@@ -14,13 +14,15 @@ use Rattle.base.specs.Choice.{if_then_else_}
 use Rattle.base.specs.Numbers.{sizesRight}
 use Rattle.base.proofs.RecordLaws.{records-drop}
 use Rattle.floor.specs.Floors.{emptyFloor, newFloorOf}
-use Rattle.floor.specs.Runs.{runOf}
+use Rattle.floor.specs.Runs.{runOf, Told}
+use Rattle.floor.proofs.RunMeans.{run-told}
 use Rattle.drill_file.specs.DrillFile.{boxesOf, stationsOf, recordsStart, recordCount, fileRefusal, headerOf, recordsOf}
 use Rattle.drill_file.proofs.FileLaws.{Values, refused-number, accepted-values}
 use Rattle.drill_file.proofs.TestLaws.{accepted-passed}
 use Rattle.player.specs.Played.{ofRun, playedOf}
 use Rattle.floor.specs.declared.Floor.{Floor}
 use Rattle.floor.specs.declared.NewFloor.{NewFloor}
+use Rattle.floor.specs.declared.Ran.{Ran}
 use Rattle.drill_file.specs.declared.Header.{Header}
 use Rattle.drill_file.specs.declared.Header.the-variants.{Refused, Accepted}
 use Rattle.player.specs.declared.Played.{Played}
@@ -74,3 +76,12 @@ module _ (s : List ℕ) (h : Header) (e : h ≡ headerOf s) where
         ey ∙ ap (λ (l : List (List ℕ)). ofRun (runOf (newFloorOf n m .floor) l)) records
         ∙ ap₂ (λ (a b : ℕ). ofRun (runOf (newFloorOf a b .floor) (recordsOf s))) (values .boxes) (values .stations)
         ∙ sym (played-accepted s (values .accepted))
+
+-- What the player says of an accepted file: so many of its first records were accepted and left the floor; where it stopped before
+-- their end, the next record is the one that was refused, and the refusal is its number.
+pub played-told : (s : List ℕ) → fileRefusal s ≡ 0
+    → (x : Ran) × (playedOf s ≡ ofRun x) × Told (newFloorOf (boxesOf s) (stationsOf s) .floor) (recordsOf s) (playedOf s .accepted) x
+played-told s e =
+    let f = newFloorOf (boxesOf s) (stationsOf s) .floor in
+    let p = played-accepted s e in
+    (runOf f (recordsOf s), p, subst (λ (k : ℕ). Told f (recordsOf s) k (runOf f (recordsOf s))) (sym (ap (λ (y : Played). y .accepted) p)) (run-told f (recordsOf s)))

@@ -21,8 +21,8 @@ use Rattle.floor.proofs.Forms.{stepped, afterBegin, afterServeRead, afterServeW
 use Rattle.floor.proofs.View.{CanBegin, StepView, turned, began, apply-view}
 use Rattle.floor.proofs.Accepts.{begin-accepted}
 use Rattle.floor.proofs.Requests.{reads-wait}
-use Rattle.floor.proofs.Keeps.{Lengths, apply-keeps, apply-lengths, row-stored, station-stored}
-use Rattle.floor.specs.Sound.{Sound}
+use Rattle.floor.proofs.Keeps.{apply-keeps, apply-lengths, row-stored, station-stored}
+use Rattle.floor.specs.Sound.{Sound, Lengths}
 use Rattle.floor.specs.declared.Phase.the-variants.{Reading, Writing}
 use Rattle.floor.specs.declared.Station.{Station}
 use Rattle.floor.specs.declared.ReadSlot.{ReadSlot}

@@ -15,7 +15,7 @@ use Rattle.register.specs.Register.{rmwRead, rmwWrite}
 use Rattle.register.proofs.RegisterLaws.{takes-both, write-answers, write-keeps-read}
 use Rattle.register.specs.declared.StorageBox.{StorageBox}
 use Rattle.floor.specs.State.{box0, row0, readSlot0, writeSlot0, boxAt, stationAt, rowAt, readAt, writeAt, isGone, isReading, isWriting, atQuorum}
-use Rattle.floor.specs.Sound.{Sound}
+use Rattle.floor.specs.Sound.{Sound, Lengths}
 use Rattle.floor.specs.Rows.{issued, revisionOf, allTaken}
 use Rattle.floor.specs.Effects.{withRegister}
 use Rattle.floor.specs.Step.{applyOf}
@@ -26,7 +26,7 @@ use Rattle.floor.proofs.View.{CanDeliver}
 use Rattle.floor.proofs.Accepts.{serve-read-accepted, serve-write-accepted, read-received, write-issued, write-received, write-decided, write-aborted}
 use Rattle.floor.proofs.Requests.{writes-wait}
 use Rattle.floor.proofs.Answers.{quorum-holds, quorum-not, taken-holds}
-use Rattle.floor.proofs.Keeps.{Lengths, apply-keeps, apply-lengths, apply-sizes, used-stored, owner-stored}
+use Rattle.floor.proofs.Keeps.{apply-keeps, apply-lengths, apply-sizes, used-stored, owner-stored}
 use Rattle.floor.proofs.RowLaws.{apply-used, row-same}
 use Rattle.floor.specs.declared.Phase.{Phase}
 use Rattle.floor.specs.declared.Phase.the-variants.{Reading, Writing}

@@ -17,7 +17,8 @@ use Rattle.floor.proofs.Standings.{clash}
 use Rattle.floor.proofs.Stores.{getD-same}
 use Rattle.base.proofs.SizeLaws.{Sizes, sizes-mean}
 use Rattle.floor.proofs.View.{StepView, turned, began, apply-view}
-use Rattle.floor.proofs.Keeps.{Lengths, apply-keeps, apply-lengths, empty-sound, empty-lengths}
+use Rattle.floor.specs.Sound.{Lengths}
+use Rattle.floor.proofs.Keeps.{apply-keeps, apply-lengths, empty-sound, empty-lengths}
 use Rattle.floor.proofs.BoxLaws.{box-grown}
 use Rattle.floor.proofs.RowLaws.{apply-used, row-same}
 use Rattle.floor.proofs.StationLaws.{last-from}
@@ -29,8 +30,8 @@ use Rattle.floor.specs.declared.Stepped.{Stepped}
 use Rattle.floor.specs.declared.Outcome.the-variants.{Begun}
 use Rattle.floor.specs.declared.Command.{Command}
 use Rattle.floor.specs.declared.Command.the-variants.{Begin}
-use Rattle.solo.specs.Plan.{highestBegun}
 use Rattle.floor.specs.Runs.{after}
+use Rattle.solo.specs.Plan.{highestBegun}
 use Rattle.solo.specs.Progress.{Lawful}
 use Rattle.solo.proofs.RoundLaws.{highest-each, highest-most}
 

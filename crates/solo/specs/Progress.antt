@@ -6,8 +6,7 @@ use mathlib.Core.Logic.{_⊎_}
 use lib.ListN.{length}
 use Rattle.base.specs.Numbers.{quorum, rankOf}
 use Rattle.floor.specs.State.{boxAt, stationAt}
-use Rattle.floor.specs.Sound.{Sound}
-use Rattle.floor.proofs.Keeps.{Lengths}
+use Rattle.floor.specs.Sound.{Sound, Lengths}
 use Rattle.floor.specs.declared.Phase.the-variants.{Idle}
 use Rattle.floor.specs.declared.Floor.{Floor}
 use Rattle.floor.specs.declared.Outcome.the-variants.{Aborted, Decided}

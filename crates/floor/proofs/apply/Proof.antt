@@ -14,4 +14,4 @@ apply-spec =
     (tie.spec
     (λ c κs. search needs)
     (λ c κs. search needs)
-    (λ c. c .step .ensures ∙ ap (applyOf _) (ap commandOf (c .before .encode .ensures) ∙ decode-encode _)))
+    (λ c. c .step .ensures .0 ∙ ap (applyOf _) (ap commandOf (c .before .encode .ensures) ∙ decode-encode _)))

@@ -1,0 +1,44 @@
+-- The number of a step's outcome is that of its refusal.
+use Prim.Native.Nat.{ℕ}
+use native.Mathlib.Decide.{ℕ-discrete}
+use mathlib.Core.Path.{_≡_, refl, sym, ap, _∙_}
+use mathlib.Core.Bool.{Bool, true, false}
+use mathlib.Core.List.{List}
+use Rattle.base.proofs.Choices.{on-true, on-false}
+use Rattle.floor.specs.Sound.{soundOf}
+use Rattle.floor.specs.Commands.{commandOf}
+use Rattle.floor.specs.Refusals.{refusalIn}
+use Rattle.floor.specs.Effects.{effectIn}
+use Rattle.floor.specs.Step.{numberOf, look, applyOf, stepOf, refusalOf}
+use Rattle.floor.specs.declared.Floor.{Floor}
+use Rattle.floor.specs.declared.Stepped.{Stepped}
+use Rattle.floor.proofs.SoundLaws.{sound-means}
+use Rattle.floor.proofs.StepLaws.{step-apply, apply-unsound, apply-refused, apply-accepted}
+use Rattle.floor.proofs.Keeps.{effect-said}
+use Rattle.floor.proofs.RunMeans.{accepted-number}
+
+module _ (f : Floor) (r : List ℕ) where
+  abbrev saying : Stepped → ℕ
+  saying s = numberOf (s .outcome)
+
+  refusal-sound : soundOf f ≡ true → refusalOf f r ≡ refusalIn (look f (commandOf r)) (commandOf r)
+  unfolding refusalOf
+  refusal-sound e = sym (on-true _ e refl)
+
+  refusal-unsound : soundOf f ≡ false → refusalOf f r ≡ 6
+  unfolding refusalOf
+  refusal-unsound e = sym (on-false _ e refl)
+
+  by-soundness : (t : Bool) → soundOf f ≡ t → numberOf (applyOf f (commandOf r) .outcome) ≡ refusalOf f r
+  by-soundness true e =
+      elim (ℕ-discrete (refusalIn (look f (commandOf r)) (commandOf r)) 0) [
+        | yes z ↦
+            ap saying (apply-accepted f (commandOf r) (sound-means f e) z)
+            ∙ accepted-number (effectIn (look f (commandOf r)) (commandOf r) .outcome) (effect-said (look f (commandOf r)) (commandOf r) z)
+            ∙ sym (refusal-sound e ∙ z)
+        | no z ↦ ap saying (apply-refused f (commandOf r) (sound-means f e) z) ∙ sym (refusal-sound e)
+      ]
+  by-soundness false e = ap saying (apply-unsound f (commandOf r) e) ∙ sym (refusal-unsound e)
+
+  pub step-number : numberOf (stepOf f r .outcome) ≡ refusalOf f r
+  step-number = ap saying (step-apply f r) ∙ by-soundness (soundOf f) refl
