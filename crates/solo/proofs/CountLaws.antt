@@ -4,7 +4,7 @@ use native.Mathlib.Omega.{arith}
 use native.Mathlib.Nat.{zero-add}
 use mathlib.Core.Path.{_≡_, refl, sym, _∙_}
 use mathlib.Core.Bool.{true, false}
-use mathlib.Core.List.{List, [], _∷_, _++_}
+use mathlib.Core.List.{List, [], _∷_}
 use lib.ListN.{length, take}
 use lib.Seq.{length-take-le}
 use Rattle.base.proofs.Choices.{by-test}
@@ -22,12 +22,6 @@ use Rattle.floor.specs.Runs.{after}
 use Rattle.solo.specs.Counted.{saidBy, AllAccepted, lastSaid, Counted}
 use Rattle.solo.specs.declared.Solo.{Solo}
 use Rattle.solo.proofs.DriveLaws.{driven-over}
-
--- one list of steps after another
-pub after-append : (f : Floor) (xs ys : List (List ℕ)) → after f (xs ++ ys) ≡ after (after f xs) ys
-unfolding after
-after-append f [] ys = refl
-after-append f (x ∷ xs) ys = after-append (stepOf f x .floor) xs ys
 
 refused-over : (o : Outcome) → isRefused o ≡ true → goesOn o ≡ false
 refused-over (Begun a) e = clash e refl

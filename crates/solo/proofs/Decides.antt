@@ -7,10 +7,10 @@ use mathlib.Core.Logic.{inl, inr}
 use mathlib.Core.Bool.{Bool, true, false}
 use mathlib.Core.List.{List, [], _∷_, _++_}
 use lib.ListN.{length, getD, take}
-use lib.Seq.{getD-set-same, length-take-le}
+use lib.Seq.{length-take-le}
 use Rattle.base.specs.Numbers.{quorum, rankOf}
 use Rattle.base.proofs.Choices.{by-test}
-use Rattle.floor.specs.State.{box0, station0, row0, boxAt, rowAt, isGone, isBusy}
+use Rattle.floor.specs.State.{box0, boxAt, rowAt, isGone, isBusy}
 use Rattle.floor.specs.Rows.{newRow}
 use Rattle.floor.specs.Commands.{encodeOf}
 use Rattle.floor.specs.Step.{isRefused, applyOf}
@@ -19,10 +19,13 @@ use Rattle.floor.proofs.SoundLaws.{sound-holds}
 use Rattle.floor.proofs.Standings.{clash}
 use Rattle.floor.proofs.Forms.{stepped, afterBegin, afterServeRead, afterServeWrite}
 use Rattle.floor.proofs.View.{CanBegin, StepView, turned, began, apply-view}
-use Rattle.floor.proofs.Keeps.{apply-keeps, apply-lengths}
+use Rattle.floor.proofs.Accepts.{begin-accepted}
+use Rattle.floor.proofs.Requests.{reads-wait}
+use Rattle.floor.proofs.Keeps.{apply-keeps, apply-lengths, row-stored, station-stored}
 use Rattle.floor.specs.Sound.{Sound, Lengths}
 use Rattle.floor.specs.declared.Phase.the-variants.{Reading, Writing}
 use Rattle.floor.specs.declared.Station.{Station}
+use Rattle.floor.specs.declared.ReadSlot.{ReadSlot}
 use Rattle.floor.specs.declared.Row.{Row}
 use Rattle.floor.specs.declared.Floor.{Floor}
 use Rattle.floor.specs.declared.Stepped.{Stepped}
@@ -38,8 +41,7 @@ use Rattle.solo.specs.declared.Solo.{Solo}
 use Rattle.solo.proofs.DriveLaws.{counted-accepted, counted-refused, advance-apply, driven-append, driven-over}
 use Rattle.solo.proofs.FrontLaws.{front-means, front-holds, solo-refused, solo-driven, refusal-sound, refusal-zero}
 use Rattle.solo.proofs.RoundLaws.{round-some, round-passes}
-use Rattle.solo.proofs.Requests.{all-wait, reads-wait}
-use Rattle.solo.proofs.Accepted.{begin-accepted}
+use Rattle.solo.proofs.PhaseRequests.{all-wait}
 use Rattle.solo.proofs.Driven.{Attempt, Driven, ReadsAt, WritesAt, read-served, read-driven, read-sent, read-more, read-more-driven, read-more-reads, read-last, read-last-driven, read-last-writes, write-served, write-driven, write-sent, write-more, write-more-driven, write-more-writes, allSaid, all-said, write-decides, write-aborts}
 
 -- an accepted step, and an exchange of two, of a drive that goes on
@@ -190,7 +192,7 @@ module _ (f : Floor) (s v : ℕ) (highest : Bool) (z : Sound f) (l : Lengths f) 
   begins = begin-accepted f z s round v can
 
   new-row : rowAt (afterBegin f s round v) (f .used) ≡ newRow (f .n) s round v
-  new-row = getD-set-same (f .rows) (f .used) (newRow (f .n) s round v) row0 (omega (arith, can .row, l .rows))
+  new-row = row-stored f l z (f .used) (newRow (f .n) s round v) (can .row)
 
   begun-driven : Driven attempt (Reading (f .used)) 0 (afterBegin f s round v)
   unfolding newRow
@@ -202,12 +204,12 @@ module _ (f : Floor) (s v : ℕ) (highest : Bool) (z : Sound f) (l : Lengths f) 
     owner = ap (λ (w : Row). w .station) new-row;
     rank = ap (λ (w : Row). w .rank) new-row;
     boxes = λ j. record { stopped = refl; read = λ i. low j i .0; write = λ i _. low j i .1 };
-    state = ap (λ (x : Station). x .state) (getD-set-same (f .stations) s _ station0 (omega (arith, can .station, z .station-most, l .stations)));
+    state = ap (λ (x : Station). x .state) (station-stored f l z s _ (can .station));
   }
 
   begun-reads : ReadsAt attempt 0 0 (rowAt (afterBegin f s round v) (f .used))
   unfolding newRow
-  begun-reads = rw new-row (all-wait (f .n) _ _ (reads-wait (f .n) (z .box-most)))
+  begun-reads = rw new-row (all-wait (f .n) _ _ (λ j h. ap (λ (x : ReadSlot). x .stage) (reads-wait (f .n) (z .box-most) j h)))
 
   begun : AtRead attempt 0 0 1 (advanceOf (startOf f) (encodeOf (Begin s round v)))
   begun =

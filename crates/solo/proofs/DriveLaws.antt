@@ -8,17 +8,11 @@ use lib.ListN.{length}
 use Rattle.base.proofs.Choices.{on-true, on-false, by-test}
 use Rattle.floor.specs.Commands.{encodeOf}
 use Rattle.floor.specs.Step.{isRefused, applyOf, stepOf}
-use Rattle.floor.proofs.Encodings.{decode-encode}
-use Rattle.floor.specs.declared.Floor.{Floor}
+use Rattle.floor.proofs.CommandLaws.{step-encode}
 use Rattle.floor.specs.declared.Command.{Command}
 use Rattle.floor.specs.declared.Stepped.{Stepped}
 use Rattle.solo.specs.Drive.{goesOn, counted, advanceOf, drivenBy}
 use Rattle.solo.specs.declared.Solo.{Solo}
-
--- the step of a command's record is the step of the command
-pub step-encoded : (f : Floor) (c : Command) → stepOf f (encodeOf c) ≡ applyOf f c
-unfolding stepOf
-step-encoded f c = ap (applyOf f) (decode-encode c)
 
 -- a step that is accepted counts, and one that is turned back does not
 module _ (k : ℕ) (s : Stepped) where
@@ -48,7 +42,7 @@ module _ (d : Solo) where
 
   -- on a command
   pub advance-apply : (c : Command) → goesOn (d .outcome) ≡ true → counted (d .steps) (applyOf (d .floor) c) ≡ advanceOf d (encodeOf c)
-  advance-apply c e = ap (counted (d .steps)) (sym (step-encoded (d .floor) c)) ∙ advance-on (encodeOf c) e
+  advance-apply c e = ap (counted (d .steps)) (sym (step-encode (d .floor) c)) ∙ advance-on (encodeOf c) e
 
   advance-most : (r : List ℕ) → advanceOf d r .steps ≤ d .steps + 1
   unfolding advanceOf

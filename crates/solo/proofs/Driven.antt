@@ -4,15 +4,17 @@ use Prim.Native.Nat.{ℕ, _+_, _≤_, _<_}
 use native.Mathlib.Omega.{arith}
 use native.Mathlib.Nat.{le-refl, max-le}
 use mathlib.Core.Path.{_≡_, sym, ap, subst, _∙_}
+use mathlib.Core.Logic.{inr}
 use mathlib.Core.Bool.{Bool, true, false}
 use mathlib.Core.List.{List}
 use lib.ListN.{length, getD, set}
 use lib.Seq.{getD-set-same, getD-set-other}
 use Rattle.base.specs.Numbers.{quorum}
+use Rattle.protocol.specs.Mask.{countBelow}
 use Rattle.register.specs.Register.{rmwRead, rmwWrite}
 use Rattle.register.proofs.RegisterLaws.{takes-both, write-answers, write-keeps-read}
 use Rattle.register.specs.declared.StorageBox.{StorageBox}
-use Rattle.floor.specs.State.{box0, station0, row0, readSlot0, writeSlot0, boxAt, stationAt, rowAt, readAt, writeAt, isGone, isReading, isWriting, atQuorum}
+use Rattle.floor.specs.State.{box0, row0, readSlot0, writeSlot0, boxAt, stationAt, rowAt, readAt, writeAt, isGone, isReading, isWriting, atQuorum}
 use Rattle.floor.specs.Sound.{Sound, Lengths}
 use Rattle.floor.specs.Rows.{issued, revisionOf, allTaken}
 use Rattle.floor.specs.Effects.{withRegister}
@@ -21,7 +23,10 @@ use Rattle.floor.proofs.Standings.{reading-holds, writing-holds}
 use Rattle.floor.proofs.Stores.{set-all}
 use Rattle.floor.proofs.Forms.{ownerAt, readHeard, writeHeard, withRow, stepped, afterServeRead, afterServeWrite, afterIssue, afterDecision, afterAbort}
 use Rattle.floor.proofs.View.{CanDeliver}
-use Rattle.floor.proofs.Keeps.{apply-keeps, apply-lengths, apply-sizes}
+use Rattle.floor.proofs.Accepts.{serve-read-accepted, serve-write-accepted, read-received, write-issued, write-received, write-decided, write-aborted}
+use Rattle.floor.proofs.Requests.{writes-wait}
+use Rattle.floor.proofs.Answers.{quorum-holds, quorum-not, taken-holds}
+use Rattle.floor.proofs.Keeps.{apply-keeps, apply-lengths, apply-sizes, used-stored, owner-stored}
 use Rattle.floor.proofs.RowLaws.{apply-used, row-same}
 use Rattle.floor.specs.declared.Phase.{Phase}
 use Rattle.floor.specs.declared.Phase.the-variants.{Reading, Writing}
@@ -34,8 +39,7 @@ use Rattle.floor.specs.declared.Stepped.{Stepped}
 use Rattle.floor.specs.declared.Outcome.the-variants.{Served, Received, WriteIssued, Decided, Aborted}
 use Rattle.floor.specs.declared.Command.{Command}
 use Rattle.floor.specs.declared.Command.the-variants.{ServeRead, ServeWrite, DeliverRead, DeliverWrite}
-use Rattle.solo.proofs.Requests.{Waits, Sent, all-wait, one-sent, one-heard, at-quorum, below-quorum, writes-wait, taken-all}
-use Rattle.solo.proofs.Accepted.{serve-read-accepted, serve-write-accepted, read-received, write-issued, write-received, write-decided, write-aborted}
+use Rattle.solo.proofs.PhaseRequests.{Waits, Sent, all-wait, one-sent, one-heard}
 
 -- The attempt that is driven, with the n boxes as they were handed in. `highest` says that its rank is above every rank that a box
 -- had served: so it is on a lawful floor, and on one built by hand it need not be.
@@ -96,21 +100,19 @@ driven-on {t} {g = g} c x d e b s =
     }
 
 module _ {t : Attempt} {phase : Phase} {p : ℕ} {g : Floor} (d : Driven t phase p g) where
-  -- the row stored is the row there
+  -- what holds of the row stored holds of the row there
   row-stored : (Q : Row → Type 0) (w : Row) → Q w → Q (getD (set (g .rows) (t .number) w) (t .number) row0)
-  row-stored Q w q = rw (getD-set-same (g .rows) (t .number) w row0 (omega (arith, d .lengths .rows, d .begun, d .sound .rows-most))) q
-
-  -- and so is the station
-  station-stored : (x : Station) → getD (set (g .stations) (t .station) x) (t .station) station0 ≡ x
-  station-stored x =
-      getD-set-same (g .stations) (t .station) x station0
-      (omega (arith, d .lengths .stations, d .owner, d .sound .stations (t .number) (d .begun), d .sound .station-most))
+  row-stored Q w q = rw (used-stored g (d .lengths) (d .sound) (t .number) w (d .begun)) q
 
   owner-state : ownerAt g (t .number) .state ≡ phase
   owner-state = ap (λ (i : ℕ). stationAt g i .state) (d .owner) ∙ d .state
 
   in-row : t .number < 64
   in-row = omega (arith, d .begun, d .sound .rows-most)
+
+-- an answer before the q-th
+before-quorum : (mask n : ℕ) → countBelow mask n < quorum n → atQuorum mask n ≡ false
+before-quorum mask n h = quorum-not mask n (λ (e : countBelow mask n ≡ quorum n). omega arith)
 
 -- a slot stored at box b: that of b, and those of the others
 module _ {A B : Type 0} (part : A → B) (l : List A) (b : ℕ) (x d : A) where
@@ -160,7 +162,7 @@ module _ {t : Attempt} {g : Floor} {b k : ℕ} (d : Driven t (Reading (t .number
   -- before the q-th
   module _ (q : k + 1 < quorum (t .n)) where
     pub read-more : applyOf g (DeliverRead (t .number) b) ≡ stepped (withRow g (t .number) (readHeard g (t .number) b)) (Received (t .number))
-    read-more = read-received g (d .sound) (t .number) b read-can reading (rw (d .size) (below-quorum _ (t .n) (rw (heard .count) q)))
+    read-more = read-received g (d .sound) (t .number) b read-can (inr (rw (d .size) (before-quorum _ (t .n) (rw (heard .count) q))))
 
     pub read-more-driven : Driven t (Reading (t .number)) 0 (withRow g (t .number) (readHeard g (t .number) b))
     read-more-driven = driven-on (DeliverRead (t .number) b) _ d read-more (d .boxes) (d .state)
@@ -177,18 +179,20 @@ module _ {t : Attempt} {g : Floor} {b k : ℕ} (d : Driven t (Reading (t .number
     issuedFloor = afterIssue g (t .number) (readHeard g (t .number) b) chosen
 
     pub read-last : applyOf g (DeliverRead (t .number) b) ≡ stepped issuedFloor (WriteIssued chosen)
-    read-last = write-issued g (d .sound) (t .number) b read-can reading (rw (d .size) (at-quorum _ (t .n) (heard .count ∙ q)))
+    read-last = write-issued g (d .sound) (t .number) b read-can reading (rw (d .size) (quorum-holds _ (t .n) (heard .count ∙ q)))
 
     pub read-last-driven : Driven t (Writing (t .number)) 0 issuedFloor
     read-last-driven =
-        driven-on (DeliverRead (t .number) b) _ d read-last (d .boxes) (rw (d .owner) (ap (λ (x : Station). x .state) (station-stored d _)))
+        driven-on (DeliverRead (t .number) b) _ d read-last (d .boxes)
+        (subst (λ (i : ℕ). stationAt issuedFloor i .state ≡ Writing (t .number)) (d .owner)
+        (ap (λ (x : Station). x .state) (owner-stored g (d .lengths) (d .sound) (t .number) _ (d .begun))))
 
     pub read-last-writes : WritesAt t 0 0 (rowAt issuedFloor (t .number))
     unfolding issued
     read-last-writes =
         row-stored d (WritesAt t 0 0) (issued (readHeard g (t .number) b) chosen (g .n))
-        (all-wait (t .n) _ _ (λ j i. writes-wait (rowAt g (t .number) .writes) (g .n)
-        (omega (arith, d .lengths .writes (t .number) (in-row d), d .sound .box-most)) j (rw (d .size) i)))
+        (all-wait (t .n) _ _ (λ j i. ap (λ (x : WriteSlot). x .stage)
+        (writes-wait (rowAt g (t .number) .writes) (g .n) (omega (arith, d .lengths .writes (t .number) (in-row d), d .sound .box-most)) j (rw (d .size) i))))
 
 -- The writes: a box that has served no higher rank and not the write takes it.
 
@@ -238,7 +242,7 @@ module _ {t : Attempt} {g : Floor} {b k : ℕ} (d : Driven t (Writing (t .number
   -- before the q-th
   module _ (q : k + 1 < quorum (t .n)) where
     pub write-more : applyOf g (DeliverWrite (t .number) b) ≡ stepped (withRow g (t .number) (writeHeard g (t .number) b)) (Received (t .number))
-    write-more = write-received g (d .sound) (t .number) b write-can writing (rw (d .size) (below-quorum _ (t .n) (rw (written .count) q)))
+    write-more = write-received g (d .sound) (t .number) b write-can (inr (rw (d .size) (before-quorum _ (t .n) (rw (written .count) q))))
 
     pub write-more-driven : Driven t (Writing (t .number)) (b + 1) (withRow g (t .number) (writeHeard g (t .number) b))
     write-more-driven = driven-on (DeliverWrite (t .number) b) _ d write-more (d .boxes) (d .state)
@@ -249,13 +253,13 @@ module _ {t : Attempt} {g : Floor} {b k : ℕ} (d : Driven t (Writing (t .number
   -- the q-th: the station decides where all were taken, as they were where its rank is the highest, and aborts otherwise
   module _ (q : k + 1 ≡ quorum (t .n)) where
     full : atQuorum (writeHeard g (t .number) b .writers) (g .n) ≡ true
-    full = rw (d .size) (at-quorum _ (t .n) (written .count ∙ q))
+    full = rw (d .size) (quorum-holds _ (t .n) (written .count ∙ q))
 
     abbrev pub allSaid : Bool
     allSaid = allTaken (rowAt g (t .number) .writes) (writeHeard g (t .number) b .writers) (g .n)
 
     pub all-said : t .highest ≡ true → allSaid ≡ true
-    all-said i = taken-all (rowAt g (t .number) .writes) _ (λ j e. written .good j e i) (g .n)
+    all-said i = taken-holds (rowAt g (t .number) .writes) _ (g .n) (λ j _ e. written .good j e i)
 
     pub write-decides : allSaid ≡ true
         → applyOf g (DeliverWrite (t .number) b) ≡ stepped (afterDecision g (t .number) (writeHeard g (t .number) b)) (Decided (rowAt g (t .number) .written))

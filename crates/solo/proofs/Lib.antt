@@ -5,8 +5,7 @@ pub mod FrontLaws
 pub mod CountLaws
 pub mod RoundLaws
 pub mod LawfulLaws
-pub mod Requests
-pub mod Accepted
+pub mod PhaseRequests
 pub mod Driven
 pub mod Decides
 pub mod PlanRecords

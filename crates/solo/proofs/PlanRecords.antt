@@ -1,14 +1,18 @@
 -- The plan of a solo finish is made of records of 8 bytes.
 use Prim.Native.Nat.{ℕ, zero, suc, _+_, _≤_, _<_}
 use native.Mathlib.Omega.{arith}
-use mathlib.Core.Path.{refl, sym, ap, _∙_}
 use mathlib.Core.Bool.{Bool, true, false}
-use mathlib.Core.List.{List, [], _∷_, _++_}
+use mathlib.Core.List.{List, [], _∷_}
 use lib.ListN.{take}
 use Rattle.base.specs.Numbers.{quorum}
 use Rattle.base.proofs.Choices.{by-test}
 use Rattle.register.specs.declared.StorageBox.{StorageBox}
+use Rattle.floor.specs.Commands.{encodeOf}
+use Rattle.floor.proofs.Encodings.{encode-length}
+use Rattle.floor.proofs.CommandLaws.{Fielded, encode-bytes}
 use Rattle.floor.specs.declared.Floor.{Floor}
+use Rattle.floor.specs.declared.Command.{Command}
+use Rattle.floor.specs.declared.Command.the-variants.{Begin, ServeRead, ServeWrite, DeliverRead, DeliverWrite}
 use Rattle.solo.specs.Plan.{roundOf, answeringFrom, answering, lowest, exchange, exchanges, planOf}
 use Rattle.base.specs.Records.{IsRecord, AllRecords}
 use Rattle.base.proofs.RecordLaws.{all-append}
@@ -30,23 +34,22 @@ answering-below n boxes (suc k) b h =
     let r = answering-below n boxes k (b + 1) (omega arith) in
     by-test (Below n) _ _ _ (λ _. r) (λ _. (omega arith, r))
 
-request-record : (kind a b : ℕ) → kind < 256 → a < 256 → b < 256 → IsRecord (kind ∷ a ∷ b ∷ 0 ∷ 0 ∷ 0 ∷ 0 ∷ 0 ∷ [])
-request-record kind a b k h l =
-    record { eight = refl; bytes = (k, (h, (l, (omega arith, (omega arith, (omega arith, (omega arith, (omega arith, tt)))))))) }
+command-record : (c : Command) → Fielded c → IsRecord (encodeOf c)
+command-record c h = record { eight = encode-length c; bytes = encode-bytes c h }
 
 exchanges-records : (write : Bool) (a : ℕ) (bs : List ℕ) → a < 256 → Below 256 bs → AllRecords (exchanges write a bs)
 unfolding exchanges exchange
 exchanges-records write a [] h u = tt
 exchanges-records false a (b ∷ bs) h u =
-    (request-record 2 a b (omega arith) h (u .0), (request-record 4 a b (omega arith) h (u .0), exchanges-records false a bs h (u .1)))
+    (command-record (ServeRead a b) (h, u .0), (command-record (DeliverRead a b) (h, u .0), exchanges-records false a bs h (u .1)))
 exchanges-records true a (b ∷ bs) h u =
-    (request-record 3 a b (omega arith) h (u .0), (request-record 5 a b (omega arith) h (u .0), exchanges-records true a bs h (u .1)))
+    (command-record (ServeWrite a b) (h, u .0), (command-record (DeliverWrite a b) (h, u .0), exchanges-records true a bs h (u .1)))
 
 -- the plan is made of records of 8 bytes
 pub plan-records : (f : Floor) (s v : ℕ) → s < 256 → v < 4294967296 → roundOf f s ≤ 65535 → f .used < 256 → f .n ≤ 256 → AllRecords (planOf f s v)
 unfolding planOf lowest
 plan-records f s v hs hv hr hu hn =
     let u = below-take 256 (quorum (f .n)) (answering f) (answering-below 256 (f .boxes) (f .n) 0 (omega arith)) in (
-      record { eight = refl; bytes = (omega arith, (hs, (omega arith, (omega arith, (omega arith, (omega arith, (omega arith, (omega arith, tt)))))))) },
+      command-record (Begin s (roundOf f s) v) (hs, omega arith, hv),
       all-append (exchanges false (f .used) _) _ (exchanges-records false (f .used) _ hu u) (exchanges-records true (f .used) _ hu u),
     )
