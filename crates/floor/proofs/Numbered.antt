@@ -32,11 +32,11 @@ module _ (f : Floor) (r : List ℕ) where
   by-soundness : (t : Bool) → soundOf f ≡ t → numberOf (applyOf f (commandOf r) .outcome) ≡ refusalOf f r
   by-soundness true e =
       elim (ℕ-discrete (refusalIn (look f (commandOf r)) (commandOf r)) 0) [
-      | yes z ↦
-        ap saying (apply-accepted f (commandOf r) (sound-means f e) z)
-        ∙ accepted-number (effectIn (look f (commandOf r)) (commandOf r) .outcome) (effect-said (look f (commandOf r)) (commandOf r) z)
-        ∙ sym (refusal-sound e ∙ z)
-      | no z ↦ ap saying (apply-refused f (commandOf r) (sound-means f e) z) ∙ sym (refusal-sound e)
+        | yes z ↦
+            ap saying (apply-accepted f (commandOf r) (sound-means f e) z)
+            ∙ accepted-number (effectIn (look f (commandOf r)) (commandOf r) .outcome) (effect-said (look f (commandOf r)) (commandOf r) z)
+            ∙ sym (refusal-sound e ∙ z)
+        | no z ↦ ap saying (apply-refused f (commandOf r) (sound-means f e) z) ∙ sym (refusal-sound e)
       ]
   by-soundness false e = ap saying (apply-unsound f (commandOf r) e) ∙ sym (refusal-unsound e)
 
