@@ -1,0 +1,73 @@
+// Changes of a floor by hand, as records:
+//
+//     f0 boxes stations rows                  how many there are, of rows how many are in use
+//     f1 row station readers writers          the station of a row, and its masks of the boxes whose answers were received
+//     f2 box read write value stopped         a box
+//     f3 station state attempt last decided   a station; its state counts from 0, in the order of `Phase`
+use floor::Floor;
+use floor::Phase;
+use floor::Row;
+use floor::Station;
+use register::Register;
+use register::StorageBox;
+
+fn row(w: Row, r: [u8; 8]) -> Row {
+    let mut x = w;
+    x.station = r[2];
+    x.readers = r[3] as u16;
+    x.writers = r[4] as u16;
+    x
+}
+
+fn storage(r: [u8; 8]) -> StorageBox {
+    let register = Register {
+        read: r[2] as u32,
+        write: r[3] as u32,
+        value: r[4] as u32,
+    };
+    StorageBox {
+        register,
+        stopped: r[5] != 0,
+    }
+}
+
+fn state(number: u8, attempt: u8) -> Phase {
+    match number {
+        0 => Phase::Idle,
+        1 => Phase::Reading(attempt),
+        2 => Phase::Writing(attempt),
+        3 => Phase::Decided(attempt),
+        _ => Phase::Gone,
+    }
+}
+
+fn station(r: [u8; 8]) -> Station {
+    Station {
+        state: state(r[2], r[3]),
+        last: r[4] as u16,
+        decided: r[5] as u32,
+    }
+}
+
+// The floor changed as a record says.
+pub fn change(mut f: Floor, r: [u8; 8]) -> Floor {
+    let place = r[1];
+    match r[0] {
+        0xf0 => {
+            f.n = place;
+            f.m = r[2];
+            f.used = r[3];
+        }
+        0xf1 => {
+            let a = (place % 64) as usize;
+            f.rows[a] = row(f.rows[a], r);
+        }
+        0xf2 => {
+            f.boxes[(place % 9) as usize] = storage(r);
+        }
+        _ => {
+            f.stations[(place % 16) as usize] = station(r);
+        }
+    }
+    f
+}

@@ -1,0 +1,55 @@
+// The program suite: plays the cases of its standard input and says what came of each.
+//
+// A line of the input that begins with a small letter is a case: a word that says how it is played, what the case is in words, a
+// bar, and the notation of its bytes (`notation`). Any other line is printed as it stands; among them is the legend of the words.
+mod hand;
+mod notation;
+mod say;
+mod show;
+mod text;
+
+// The longest case is one byte longer than a drill file may be.
+fn case(kind: u8, s: &[u8]) {
+    let bar = text::find(s, 0, b'|');
+    let mut out = [0u8; 32807];
+    let end = notation::bytes(&s[bar..], &mut out);
+    let bytes = text::up_to(&out, end);
+    match kind {
+        b'f' => show::file(s, bytes),
+        b'p' => show::play(s, bytes),
+        b'r' => show::run(&s[0..bar], bytes, false),
+        b'h' => show::run(&s[0..bar], bytes, true),
+        b'n' => show::new_floor(s, bytes),
+        _ => text::print(b"no such kind of case\n"),
+    }
+}
+
+fn line(s: &[u8]) {
+    let first = text::byte_at(s, 0);
+    match first {
+        b'a'..=b'z' => case(first, s),
+        _ => {
+            text::print(s);
+            text::print(b"\n");
+        }
+    }
+}
+
+fn lines(input: &[u8]) {
+    let mut at = 0;
+    while at < input.len() {
+        let end = text::find(input, at, b'\n');
+        line(&input[at..end]);
+        if end == input.len() {
+            return;
+        }
+        at = end + 1;
+    }
+}
+
+// The input has fewer bytes than the buffer; its last line is printed, and would be missing if it were cut.
+fn main() {
+    let mut input = [0u8; 65536];
+    let got = io::read_full(0, &mut input);
+    lines(&input[..got]);
+}

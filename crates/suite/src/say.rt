@@ -1,0 +1,153 @@
+// A step, what came of it, a refusal, stations and boxes, in words.
+ghost use Prim.Native.Nat.{_≤_};
+use crate::text;
+use floor::Floor;
+use floor::Outcome;
+use floor::Phase;
+use floor::Station;
+use register::StorageBox;
+
+fn at_most(most: u8, x: u8) -> u8
+    ensures { λ r. ⌜ r ≤ most ⌝ }
+{
+    if x < most {
+        return x;
+    }
+    most
+}
+
+fn begin(r: [u8; 8]) {
+    let round = text::word(0, 0, r[2], r[3]);
+    let revision = text::word(r[4], r[5], r[6], r[7]);
+    text::fill(
+        b"begin: station %, round %, revision %",
+        &[r[1] as u64, round as u64, revision as u64],
+    );
+}
+
+// A record.
+pub fn record(r: [u8; 8]) {
+    match r[0] {
+        1 => begin(r),
+        2..=7 => text::pick(
+            b"||serve the read of attempt % at box %|serve the write of attempt % at box %\
+            |deliver the read answer of attempt % from box %|deliver the write answer of attempt % from box %\
+            |stop box %|station % goes",
+            r[0],
+            &[r[1] as u64, r[2] as u64],
+        ),
+        _ => text::fill(b"a record of kind %", &[r[0] as u64]),
+    }
+}
+
+// A change by hand.
+pub fn change(r: [u8; 8]) {
+    text::pick(
+        b"by hand: boxes %, stations %, rows in use %\
+        |by hand: row % of station %, read answers received by mask %, write answers by mask %\
+        |by hand: box % read rank %, write rank %, value %, stopped % (0 no, 1 yes)\
+        |by hand: station % in state % (0 idle, 1 reading, 2 writing, 3 decided, 4 gone), attempt %, last round %, \
+        decided revision %",
+        r[0] % 16,
+        &[
+            r[1] as u64,
+            r[2] as u64,
+            r[3] as u64,
+            r[4] as u64,
+            r[5] as u64,
+        ],
+    );
+}
+
+// A refusal with its cause.
+pub fn refusal(k: u8) {
+    text::pick(
+        b"no refusal|refusal % (size or L)|refusal % (version)|refusal % (number of boxes or stations)|refusal % (label)\
+        |refusal % (not whole records, or more than 4,096)|refusal % (floor not sound)\
+        |refusal % (kind, or a byte that should be zero)|refusal % (no such station, box or attempt)\
+        |refusal % (station gone)|refusal % (station reading, writing or decided)|refusal % (revision or round)\
+        |refusal % (64 rows used)|refusal % (box stopped)|refusal % (not waiting, or not on the way)|refusal %",
+        at_most(15, k),
+        &[k as u64],
+    );
+}
+
+// Prints a number behind the word of that number.
+fn said(place: u8, value: u32) {
+    text::pick(
+        b"begun %|served %|received %|aborted %|write issued %|decided %|stopped %|gone %",
+        place,
+        &[value as u64],
+    );
+}
+
+// What came of a step.
+pub fn outcome(o: Outcome) {
+    match o {
+        Outcome::Begun(a) => said(0, a as u32),
+        Outcome::Served(a) => said(1, a as u32),
+        Outcome::Received(a) => said(2, a as u32),
+        Outcome::Aborted(a) => said(3, a as u32),
+        Outcome::WriteIssued(v) => said(4, v),
+        Outcome::Decided(v) => said(5, v),
+        Outcome::Stopped(b) => said(6, b as u32),
+        Outcome::Gone(s) => said(7, s as u32),
+        Outcome::Refused(k) => refusal(k),
+    }
+}
+
+fn place(state: Phase) -> u8 {
+    match state {
+        Phase::Idle => 0,
+        Phase::Reading(_) => 1,
+        Phase::Writing(_) => 2,
+        Phase::Decided(_) => 3,
+        Phase::Gone => 4,
+    }
+}
+
+fn station(number: u8, st: Station) {
+    let state = st.state;
+    let rank = player::last_rank(st.last, number);
+    text::pick(
+        b"  station % idle, last rank %, decided revision %\n|  station % reading, last rank %, decided revision %\n\
+        |  station % writing, last rank %, decided revision %\n|  station % decided, last rank %, decided revision %\n\
+        |  station % gone, last rank %, decided revision %\n",
+        place(state),
+        &[number as u64, rank as u64, st.decided as u64],
+    );
+}
+
+// The stations of a floor, a line for each.
+pub fn stations(f: Floor) {
+    let m = at_most(16, f.m);
+    let mut j: u8 = 0;
+    while j < m {
+        let st = f.stations[j as usize];
+        station(j, st);
+        j += 1;
+    }
+}
+
+fn storage(number: u8, b: StorageBox) {
+    let r = b.register;
+    text::fill(
+        b"  box % read rank %, write rank %, value %",
+        &[number as u64, r.read as u64, r.write as u64, r.value as u64],
+    );
+    if b.stopped {
+        text::print(b", stopped");
+    }
+    text::print(b"\n");
+}
+
+// The boxes of a floor, a line for each.
+pub fn boxes(f: Floor) {
+    let n = at_most(9, f.n);
+    let mut j: u8 = 0;
+    while j < n {
+        let b = f.boxes[j as usize];
+        storage(j, b);
+        j += 1;
+    }
+}

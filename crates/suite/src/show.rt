@@ -1,0 +1,107 @@
+// Plays a case and says what came of it.
+use crate::hand;
+use crate::say;
+use crate::text;
+use floor::Floor;
+
+// The records of a file: what stands behind its label.
+fn records(file: &[u8]) -> &[u8] {
+    text::from(file, text::byte_at(file, 5) as usize + 6)
+}
+
+// How many steps of a file were accepted, and the refusal, with the step that it turned back.
+fn ended(file: &[u8], accepted: usize, refusal: u8) {
+    text::fill(b"accepted %, ", &[accepted as u64]);
+    say::refusal(refusal);
+    if 5 < refusal {
+        text::print(b" of the step: ");
+        say::record(text::record(records(file), accepted));
+    }
+    text::print(b"\n");
+}
+
+// What a file is, and how it ended.
+pub fn file(words: &[u8], file: &[u8]) {
+    text::print(words);
+    let label = drill_file::label(file);
+    if label.len() == 0 {
+        text::print(b" -> empty label, ");
+    } else {
+        text::print(b" -> panel ");
+        text::print(label);
+        text::print(b", ");
+    }
+    let played = player::play(file);
+    ended(file, played.accepted, played.refusal);
+}
+
+// The same, and the stations at the end.
+pub fn play(words: &[u8], bytes: &[u8]) {
+    file(words, bytes);
+    let played = player::play(bytes);
+    let f = played.floor;
+    say::stations(f);
+}
+
+// Takes one step and says what it is and what came of it.
+fn step(f: Floor, r: [u8; 8]) -> Floor {
+    say::record(r);
+    text::print(b" -> ");
+    let s = floor::step(f, r);
+    let o = s.outcome;
+    say::outcome(o);
+    s.floor
+}
+
+// Takes the step of that number, or changes the floor by hand.
+fn turn(number: usize, f: Floor, r: [u8; 8], by_hand: bool) -> Floor {
+    text::fill(b"\n  % ", &[number as u64]);
+    if by_hand {
+        if 0xf0 <= r[0] {
+            say::change(r);
+            return hand::change(f, r);
+        }
+    }
+    step(f, r)
+}
+
+fn steps(start: Floor, records: &[u8], by_hand: bool) -> Floor {
+    let count = records.len() / 8;
+    let mut f = start;
+    let mut k = 0;
+    while k < count {
+        f = turn(k, f, text::record(records, k), by_hand);
+        k += 1;
+    }
+    f
+}
+
+// Each step of a file, also behind a refused one, the stations and boxes at the end, and how the file ends.
+pub fn run(words: &[u8], bytes: &[u8], by_hand: bool) {
+    let n = text::byte_at(bytes, 3);
+    let m = text::byte_at(bytes, 4);
+    text::print(words);
+    text::fill(b"(new floor: boxes %, stations %)", &[n as u64, m as u64]);
+    let made = floor::new_floor(n, m);
+    let start = made.floor;
+    let f = steps(start, records(bytes), by_hand);
+    text::print(b"\n");
+    if by_hand {
+        return;
+    }
+    say::stations(f);
+    say::boxes(f);
+    let played = player::play(bytes);
+    text::print(b"  as a file: ");
+    ended(bytes, played.accepted, played.refusal);
+}
+
+// A new floor.
+pub fn new_floor(words: &[u8], sizes: &[u8]) {
+    let made = floor::new_floor(text::byte_at(sizes, 0), text::byte_at(sizes, 1));
+    let f = made.floor;
+    text::print(words);
+    text::fill(b" -> boxes %, stations %, ", &[f.n as u64, f.m as u64]);
+    say::refusal(made.refusal);
+    text::print(b"\n");
+}
