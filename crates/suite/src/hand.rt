@@ -71,3 +71,15 @@ pub fn change(mut f: Floor, r: [u8; 8]) -> Floor {
     }
     f
 }
+
+// Sixteen boxes: the nine, and the first seven of them again.
+pub fn sixteen(boxes: [StorageBox; 9]) -> [StorageBox; 16] {
+    let a = boxes[0];
+    let b = boxes[1];
+    let c = boxes[2];
+    let d = boxes[3];
+    let e = boxes[4];
+    let g = boxes[5];
+    let h = boxes[6];
+    [a, b, c, d, e, g, h, boxes[7], boxes[8], a, b, c, d, e, g, h]
+}

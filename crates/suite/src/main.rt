@@ -11,14 +11,15 @@ mod text;
 // The longest case is one byte longer than a drill file may be.
 fn case(kind: u8, s: &[u8]) {
     let bar = text::find(s, 0, b'|');
+    let words = &s[0..bar];
     let mut out = [0u8; 32807];
     let end = notation::bytes(&s[bar..], &mut out);
     let bytes = text::up_to(&out, end);
     match kind {
         b'f' => show::file(s, bytes),
         b'p' => show::play(s, bytes),
-        b'r' => show::run(&s[0..bar], bytes, false),
-        b'h' => show::run(&s[0..bar], bytes, true),
+        b'r' => show::run(words, bytes),
+        b'h' => show::by_hand(words, bytes),
         b'n' => show::new_floor(s, bytes),
         _ => text::print(b"no such kind of case\n"),
     }

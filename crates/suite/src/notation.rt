@@ -72,13 +72,16 @@ fn chain(out: &mut [u8], at: usize, n: u8, count: u8) -> usize {
 // What a record that starts at a place stands for: itself, or the records named above.
 fn expanded(out: &mut [u8], at: usize, end: usize) -> usize {
     let r = text::record(text::from(out, at), 0);
-    match r[0] {
-        0xf8 => chain(out, at, r[1], r[2]),
+    let kind = r[0];
+    let x = r[1];
+    let y = r[2];
+    match kind {
+        0xf8 => chain(out, at, x, y),
         0xf9 => {
             push_record(out, at, [0; 8]);
-            text::word(0, 0, r[1], r[2]) as usize
+            text::word(0, 0, x, y) as usize
         }
-        0xfa => phase(out, at, r[1], r[2], r[3]),
+        0xfa => phase(out, at, x, y, r[3]),
         _ => end,
     }
 }

@@ -27,16 +27,17 @@ fn begin(r: [u8; 8]) {
 
 // A record.
 pub fn record(r: [u8; 8]) {
-    match r[0] {
+    let kind = r[0];
+    match kind {
         1 => begin(r),
         2..=7 => text::pick(
             b"||serve the read of attempt % at box %|serve the write of attempt % at box %\
             |deliver the read answer of attempt % from box %|deliver the write answer of attempt % from box %\
             |stop box %|station % goes",
-            r[0],
+            kind,
             &[r[1] as u64, r[2] as u64],
         ),
-        _ => text::fill(b"a record of kind %", &[r[0] as u64]),
+        _ => text::fill(b"a record of kind %", &[kind as u64]),
     }
 }
 
@@ -66,8 +67,9 @@ pub fn refusal(k: u8) {
         |refusal % (not whole records, or more than 4,096)|refusal % (floor not sound)\
         |refusal % (kind, or a byte that should be zero)|refusal % (no such station, box or attempt)\
         |refusal % (station gone)|refusal % (station reading, writing or decided)|refusal % (revision or round)\
-        |refusal % (64 rows used)|refusal % (box stopped)|refusal % (not waiting, or not on the way)|refusal %",
-        at_most(15, k),
+        |refusal % (64 rows used)|refusal % (box stopped)|refusal % (not waiting, or not on the way)\
+        |refusal % (fewer than q boxes not stopped)|refusal %",
+        at_most(16, k),
         &[k as u64],
     );
 }

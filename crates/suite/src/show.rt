@@ -53,13 +53,54 @@ fn step(f: Floor, r: [u8; 8]) -> Floor {
     s.floor
 }
 
-// Takes the step of that number, or changes the floor by hand.
+// A solo finish, and what came of it.
+fn alone(f: Floor, r: [u8; 8]) -> Floor {
+    let revision = text::word(r[4], r[5], r[6], r[7]);
+    let d = solo::solo_finish(f, r[1], revision);
+    let o = d.outcome;
+    text::fill(
+        b"solo finish of station %, revision % -> steps %, ",
+        &[r[1] as u64, revision as u64, d.steps as u64],
+    );
+    say::outcome(o);
+    d.floor
+}
+
+// The tally of the floor's first boxes by value, and that of a lent run of as many.
+fn tallies(f: Floor, count: u8) -> Floor {
+    let boxes = f.boxes;
+    let t = tally::tally_floor(boxes, count);
+    let u = tally::tally_lent(hand::sixteen(boxes), count);
+    text::fill(
+        b"tally of the first % boxes -> not stopped %, highest write rank %; ",
+        &[count as u64, t.count as u64, t.highest as u64],
+    );
+    text::fill(
+        b"of a lent run of % -> not stopped %, highest write rank %",
+        &[count as u64, u.count as u64, u.highest as u64],
+    );
+    f
+}
+
+// A record that is no step.
+fn by_other(f: Floor, r: [u8; 8]) -> Floor {
+    let kind = r[0];
+    match kind {
+        0xf4 => alone(f, r),
+        0xf5 => tallies(f, r[1]),
+        _ => {
+            say::change(r);
+            hand::change(f, r)
+        }
+    }
+}
+
+// Takes the step of that number, or what stands in its place.
 fn turn(number: usize, f: Floor, r: [u8; 8], by_hand: bool) -> Floor {
     text::fill(b"\n  % ", &[number as u64]);
     if by_hand {
         if 0xf0 <= r[0] {
-            say::change(r);
-            return hand::change(f, r);
+            return by_other(f, r);
         }
     }
     step(f, r)
@@ -76,8 +117,8 @@ fn steps(start: Floor, records: &[u8], by_hand: bool) -> Floor {
     f
 }
 
-// Each step of a file, also behind a refused one, the stations and boxes at the end, and how the file ends.
-pub fn run(words: &[u8], bytes: &[u8], by_hand: bool) {
+// Says what came of each step of a file, also behind a refused one.
+fn listed(words: &[u8], bytes: &[u8], by_hand: bool) -> Floor {
     let n = text::byte_at(bytes, 3);
     let m = text::byte_at(bytes, 4);
     text::print(words);
@@ -86,14 +127,22 @@ pub fn run(words: &[u8], bytes: &[u8], by_hand: bool) {
     let start = made.floor;
     let f = steps(start, records(bytes), by_hand);
     text::print(b"\n");
-    if by_hand {
-        return;
-    }
+    f
+}
+
+// The same, the stations and boxes at the end, and how the file ends.
+pub fn run(words: &[u8], bytes: &[u8]) {
+    let f = listed(words, bytes, false);
     say::stations(f);
     say::boxes(f);
     let played = player::play(bytes);
     text::print(b"  as a file: ");
     ended(bytes, played.accepted, played.refusal);
+}
+
+// Each step on a floor that records change by hand.
+pub fn by_hand(words: &[u8], bytes: &[u8]) {
+    listed(words, bytes, true);
 }
 
 // A new floor.
