@@ -50,7 +50,7 @@ fn station(r: [u8; 8]) -> Station {
 }
 
 // The floor changed as a record says.
-pub fn change(mut f: Floor, r: [u8; 8]) -> Floor {
+pub(crate) fn change(mut f: Floor, r: [u8; 8]) -> Floor {
     let place = r[1];
     match r[0] {
         0xf0 => {
@@ -73,7 +73,7 @@ pub fn change(mut f: Floor, r: [u8; 8]) -> Floor {
 }
 
 // Sixteen boxes: the nine, and the first seven of them again.
-pub fn sixteen(boxes: [StorageBox; 9]) -> [StorageBox; 16] {
+pub(crate) fn sixteen(boxes: [StorageBox; 9]) -> [StorageBox; 16] {
     let a = boxes[0];
     let b = boxes[1];
     let c = boxes[2];

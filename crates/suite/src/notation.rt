@@ -144,7 +144,7 @@ fn set_size(out: &mut [u8], end: usize) {
 }
 
 // Fills a buffer of zeros with the bytes that a notation gives, and returns how many they are.
-pub fn bytes(notation: &[u8], out: &mut [u8]) -> usize {
+pub(crate) fn bytes(notation: &[u8], out: &mut [u8]) -> usize {
     let mut p = Place {
         end: 0,
         record: 0,

@@ -26,7 +26,7 @@ fn begin(r: [u8; 8]) {
 }
 
 // A record.
-pub fn record(r: [u8; 8]) {
+pub(crate) fn record(r: [u8; 8]) {
     let kind = r[0];
     match kind {
         1 => begin(r),
@@ -42,7 +42,7 @@ pub fn record(r: [u8; 8]) {
 }
 
 // A change by hand.
-pub fn change(r: [u8; 8]) {
+pub(crate) fn change(r: [u8; 8]) {
     text::pick(
         b"by hand: boxes %, stations %, rows in use %\
         |by hand: row % of station %, read answers received by mask %, write answers by mask %\
@@ -61,7 +61,7 @@ pub fn change(r: [u8; 8]) {
 }
 
 // A refusal with its cause.
-pub fn refusal(k: u8) {
+pub(crate) fn refusal(k: u8) {
     text::pick(
         b"no refusal|refusal % (size or L)|refusal % (version)|refusal % (number of boxes or stations)|refusal % (label)\
         |refusal % (not whole records, or more than 4,096)|refusal % (floor not sound)\
@@ -84,7 +84,7 @@ fn said(place: u8, value: u32) {
 }
 
 // What came of a step.
-pub fn outcome(o: Outcome) {
+pub(crate) fn outcome(o: Outcome) {
     match o {
         Outcome::Begun(a) => said(0, a as u32),
         Outcome::Served(a) => said(1, a as u32),
@@ -121,7 +121,7 @@ fn station(number: u8, st: Station) {
 }
 
 // The stations of a floor, a line for each.
-pub fn stations(f: Floor) {
+pub(crate) fn stations(f: Floor) {
     let m = at_most(16, f.m);
     let mut j: u8 = 0;
     while j < m {
@@ -144,7 +144,7 @@ fn storage(number: u8, b: StorageBox) {
 }
 
 // The boxes of a floor, a line for each.
-pub fn boxes(f: Floor) {
+pub(crate) fn boxes(f: Floor) {
     let n = at_most(9, f.n);
     let mut j: u8 = 0;
     while j < n {

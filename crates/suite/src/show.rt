@@ -21,7 +21,7 @@ fn ended(file: &[u8], accepted: usize, refusal: u8) {
 }
 
 // What a file is, and how it ended.
-pub fn file(words: &[u8], file: &[u8]) {
+pub(crate) fn file(words: &[u8], file: &[u8]) {
     text::print(words);
     let label = drill_file::label(file);
     if label.len() == 0 {
@@ -36,7 +36,7 @@ pub fn file(words: &[u8], file: &[u8]) {
 }
 
 // The same, and the stations at the end.
-pub fn play(words: &[u8], bytes: &[u8]) {
+pub(crate) fn play(words: &[u8], bytes: &[u8]) {
     file(words, bytes);
     let played = player::play(bytes);
     let f = played.floor;
@@ -131,7 +131,7 @@ fn listed(words: &[u8], bytes: &[u8], by_hand: bool) -> Floor {
 }
 
 // The same, the stations and boxes at the end, and how the file ends.
-pub fn run(words: &[u8], bytes: &[u8]) {
+pub(crate) fn run(words: &[u8], bytes: &[u8]) {
     let f = listed(words, bytes, false);
     say::stations(f);
     say::boxes(f);
@@ -141,12 +141,12 @@ pub fn run(words: &[u8], bytes: &[u8]) {
 }
 
 // Each step on a floor that records change by hand.
-pub fn by_hand(words: &[u8], bytes: &[u8]) {
+pub(crate) fn by_hand(words: &[u8], bytes: &[u8]) {
     listed(words, bytes, true);
 }
 
 // A new floor.
-pub fn new_floor(words: &[u8], sizes: &[u8]) {
+pub(crate) fn new_floor(words: &[u8], sizes: &[u8]) {
     let made = floor::new_floor(text::byte_at(sizes, 0), text::byte_at(sizes, 1));
     let f = made.floor;
     text::print(words);

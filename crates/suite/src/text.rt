@@ -3,7 +3,7 @@ ghost use Prim.Native.Nat.{_≤_};
 ghost use lib.ListN.{length};
 
 // The place of the first byte `b` from a place on, or the end.
-pub fn find(s: &[u8], from: usize, b: u8) -> usize
+pub(crate) fn find(s: &[u8], from: usize, b: u8) -> usize
     requires { ⌜ from ≤ length (now s) ⌝ }
     ensures { λ r. ⌜ (from ≤ r) × (r ≤ length (now (s .entry))) ⌝ }
 {
@@ -18,7 +18,7 @@ pub fn find(s: &[u8], from: usize, b: u8) -> usize
 }
 
 // The bytes up to an end.
-pub fn up_to(s: &[u8], end: usize) -> &[u8] {
+pub(crate) fn up_to(s: &[u8], end: usize) -> &[u8] {
     if end < s.len() {
         return &s[0..end];
     }
@@ -26,14 +26,14 @@ pub fn up_to(s: &[u8], end: usize) -> &[u8] {
 }
 
 // The bytes from a place on.
-pub fn from(s: &[u8], start: usize) -> &[u8] {
+pub(crate) fn from(s: &[u8], start: usize) -> &[u8] {
     if start < s.len() {
         return &s[start..];
     }
     &s[0..0]
 }
 
-pub fn byte_at(s: &[u8], at: usize) -> u8 {
+pub(crate) fn byte_at(s: &[u8], at: usize) -> u8 {
     if at < s.len() {
         return s[at];
     }
@@ -41,7 +41,7 @@ pub fn byte_at(s: &[u8], at: usize) -> u8 {
 }
 
 // The record of that number in a run of records.
-pub fn record(run: &[u8], number: usize) -> [u8; 8] {
+pub(crate) fn record(run: &[u8], number: usize) -> [u8; 8] {
     if run.len() / 8 <= number {
         return [0; 8];
     }
@@ -58,11 +58,11 @@ pub fn record(run: &[u8], number: usize) -> [u8; 8] {
     ]
 }
 
-pub fn word(a: u8, b: u8, c: u8, d: u8) -> u32 {
+pub(crate) fn word(a: u8, b: u8, c: u8, d: u8) -> u32 {
     ((a as u32 * 256 + b as u32) * 256 + c as u32) * 256 + d as u32
 }
 
-pub fn print(s: &[u8]) {
+pub(crate) fn print(s: &[u8]) {
     io::write_all(1, s);
 }
 
@@ -74,7 +74,7 @@ fn number_at(numbers: &[u64], i: usize) -> u64 {
 }
 
 // Prints a text with the numbers in the places of its signs `%`.
-pub fn fill(s: &[u8], numbers: &[u64]) {
+pub(crate) fn fill(s: &[u8], numbers: &[u64]) {
     let mut at = 0;
     let mut i = 0;
     while at < s.len() {
@@ -90,7 +90,7 @@ pub fn fill(s: &[u8], numbers: &[u64]) {
 }
 
 // The same for the text of that number among pieces that bars part.
-pub fn pick(pieces: &[u8], number: u8, numbers: &[u64]) {
+pub(crate) fn pick(pieces: &[u8], number: u8, numbers: &[u64]) {
     let mut at = 0;
     let mut left = number;
     while 0 < left {
