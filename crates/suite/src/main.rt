@@ -50,7 +50,7 @@ fn lines(input: &[u8]) {
 
 // The input has fewer bytes than the buffer; its last line is printed, and would be missing if it were cut.
 fn main() {
-    let mut input = [0u8; 65536];
+    let mut input = io::large_buffer();
     let got = io::read_full(0, &mut input);
     lines(&input[..got]);
 }

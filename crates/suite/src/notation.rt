@@ -97,6 +97,15 @@ fn record_end(start: usize, room: usize) -> usize {
     start + 8
 }
 
+// The value of a hexadecimal digit, 16 of any other sign.
+fn value(c: u8) -> u8 {
+    match c {
+        b'0'..=b'9' => c - b'0',
+        b'a'..=b'f' => c - b'a' + 10,
+        _ => 16,
+    }
+}
+
 fn digit(out: &mut [u8], p: Place, d: u8) -> Place {
     let mut q = p;
     if p.digit == 16 {
@@ -128,11 +137,11 @@ fn sign(out: &mut [u8], p: Place, c: u8) -> Place {
 }
 
 fn next(out: &mut [u8], p: Place, c: u8) -> Place {
-    match c {
-        b'0'..=b'9' => digit(out, p, c - b'0'),
-        b'a'..=b'f' => digit(out, p, c - b'a' + 10),
-        _ => sign(out, p, c),
+    let d = value(c);
+    if d < 16 {
+        return digit(out, p, d);
     }
+    sign(out, p, c)
 }
 
 // Sets L for a file that ends at a place.

@@ -16,29 +16,32 @@ fn at_most(most: u8, x: u8) -> u8
     most
 }
 
-fn begin(r: [u8; 8]) {
-    let round = text::word(0, 0, r[2], r[3]);
-    let revision = text::word(r[4], r[5], r[6], r[7]);
-    text::fill(
-        b"begin: station %, round %, revision %",
-        &[r[1] as u64, round as u64, revision as u64],
-    );
+// The second number of a record: the round of a begin, else one byte.
+fn second(r: [u8; 8]) -> u32 {
+    if r[0] == 1 {
+        return text::word(0, 0, r[2], r[3]);
+    }
+    r[2] as u32
 }
 
-// A record.
+// A record. Only a begin has a third number.
 pub(crate) fn record(r: [u8; 8]) {
     let kind = r[0];
-    match kind {
-        1 => begin(r),
-        2..=7 => text::pick(
-            b"||serve the read of attempt % at box %|serve the write of attempt % at box %\
-            |deliver the read answer of attempt % from box %|deliver the write answer of attempt % from box %\
-            |stop box %|station % goes",
-            kind,
-            &[r[1] as u64, r[2] as u64],
-        ),
-        _ => text::fill(b"a record of kind %", &[kind as u64]),
+    if 7 < kind {
+        text::fill(b"a record of kind %", &[kind as u64]);
+        return;
     }
+    text::pick(
+        b"a record of kind 0|begin: station %, round %, revision %|serve the read of attempt % at box %\
+        |serve the write of attempt % at box %|deliver the read answer of attempt % from box %\
+        |deliver the write answer of attempt % from box %|stop box %|station % goes",
+        kind,
+        &[
+            r[1] as u64,
+            second(r) as u64,
+            text::word(r[4], r[5], r[6], r[7]) as u64,
+        ],
+    );
 }
 
 // A change by hand.
@@ -133,14 +136,11 @@ pub(crate) fn stations(f: Floor) {
 
 fn storage(number: u8, b: StorageBox) {
     let r = b.register;
-    text::fill(
-        b"  box % read rank %, write rank %, value %",
+    text::pick(
+        b"  box % read rank %, write rank %, value %\n|  box % read rank %, write rank %, value %, stopped\n",
+        b.stopped as u8,
         &[number as u64, r.read as u64, r.write as u64, r.value as u64],
     );
-    if b.stopped {
-        text::print(b", stopped");
-    }
-    text::print(b"\n");
 }
 
 // The boxes of a floor, a line for each.

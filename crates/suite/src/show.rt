@@ -20,17 +20,12 @@ fn ended(file: &[u8], accepted: usize, refusal: u8) {
     text::print(b"\n");
 }
 
-// What a file is, and how it ended.
+// What a file is, its label in brackets, and how it ended.
 pub(crate) fn file(words: &[u8], file: &[u8]) {
     text::print(words);
-    let label = drill_file::label(file);
-    if label.len() == 0 {
-        text::print(b" -> empty label, ");
-    } else {
-        text::print(b" -> panel ");
-        text::print(label);
-        text::print(b", ");
-    }
+    text::print(b" -> panel [");
+    text::print(drill_file::label(file));
+    text::print(b"], ");
     let played = player::play(file);
     ended(file, played.accepted, played.refusal);
 }
