@@ -5,7 +5,7 @@ use native.Mathlib.Omega.{arith}
 use mathlib.Core.Path.{_≡_, refl, sym, subst, _∙_}
 use mathlib.Core.Bool.{Bool, true, false}
 use mathlib.Core.List.{List, [], _∷_, _++_}
-use lib.ListN.{length, getD, take}
+use lib.ListN.{length, getD}
 use Rattle.base.proofs.Choices.{by-test}
 use Rattle.register.specs.declared.StorageBox.{StorageBox}
 use Rattle.protocol.specs.Quorum.{indicator, count, Majority}

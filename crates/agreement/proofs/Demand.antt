@@ -39,7 +39,7 @@ use Rattle.agreement.specs.Demand.{firstFloor, DrivenAlone, Demand3}
 use Rattle.agreement.proofs.Reach.{New, new-floor}
 use Rattle.agreement.proofs.Positions.{size-at, means-at}
 use Rattle.agreement.proofs.Safety.{decides-at, safety}
-use Rattle.agreement.proofs.Lists.{floor-shift, said-shift, floor-behind, said-behind, left-behind, left-after}
+use Rattle.agreement.proofs.Lists.{said-shift, floor-behind, said-behind, left-behind, left-after}
 use Rattle.agreement.proofs.Alone.{ready, plan-delivers}
 
 -- what a list of steps said, by position

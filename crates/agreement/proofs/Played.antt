@@ -2,9 +2,9 @@
 use Prim.Native.Nat.{ℕ, _<_}
 use native.Mathlib.Omega.{arith}
 use native.Mathlib.Decide.{ℕ-discrete}
-use mathlib.Core.Path.{_≡_, refl, sym, ap, subst, _∙_}
+use mathlib.Core.Path.{_≡_, sym, ap, subst, _∙_}
 use mathlib.Core.List.{List}
-use lib.ListN.{length, take, getD, replicate}
+use lib.ListN.{length}
 use lib.Seq.{length-take-le}
 use Rattle.floor.specs.State.{stationAt, station0}
 use Rattle.floor.specs.Floors.{emptyFloor}
@@ -17,7 +17,7 @@ use Rattle.drill_file.specs.DrillFile.{boxesOf, stationsOf, fileRefusal, record
 use Rattle.player.specs.Played.{ofRun, playedOf}
 use Rattle.player.proofs.PlayLaws.{played-refused, played-told}
 use Rattle.player.specs.declared.Played.{Played}
-use Rattle.agreement.specs.Words.{Before, OfferedAt, DecidesAt, floorLeft}
+use Rattle.agreement.specs.Words.{Before, DecidesAt, floorLeft}
 use Rattle.agreement.specs.Demand.{firstFloor, Safety}
 use Rattle.agreement.specs.Played.{decidedIn, acceptedIn, PlayedFile}
 use Rattle.agreement.proofs.Lists.{left-after}

@@ -6,7 +6,7 @@ use lib.ListN.{take}
 use Rattle.floor.specs.State.{stationAt}
 use Rattle.drill_file.specs.DrillFile.{boxesOf, stationsOf, recordsOf}
 use Rattle.player.specs.Played.{playedOf}
-use Rattle.agreement.specs.Words.{Before, OfferedAt}
+use Rattle.agreement.specs.Words.{OfferedAt}
 use Rattle.agreement.specs.Demand.{firstFloor}
 
 -- the decided revision of the station t, 0 for none, after the file s was played

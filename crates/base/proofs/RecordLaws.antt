@@ -43,19 +43,6 @@ record-nth zero s p i h = absurd (omega arith)
 record-nth (suc k) s p zero h = ap (recordAt s) (omega arith)
 record-nth (suc k) s p (suc i) h = record-nth k s (p + 8) i (omega arith) ∙ ap (recordAt s) (omega arith)
 
--- with i of k records gone, the next is the one at p
-pub records-more : (s : List ℕ) (k i p : ℕ) → i < k → recordsFrom (k - i) s p ≡ recordAt s p ∷ recordsFrom (k - (i + 1)) s (p + 8)
-unfolding recordsFrom
-records-more s k i p h =
-    let e : k - i ≡ suc (k - (i + 1)) = omega arith in
-    rw e
-
-pub records-none : (s : List ℕ) (k i p : ℕ) → k ≤ i → recordsFrom (k - i) s p ≡ []
-unfolding recordsFrom
-records-none s k i p h =
-    let e : k - i ≡ 0 = omega arith in
-    rw e
-
 -- the joined records are the bytes they were cut from
 pub records-joined : (k : ℕ) (s : List ℕ) (p : ℕ) → p + 8 * k ≤ length s → flatten (recordsFrom k s p) ≡ take (8 * k) (drop p s)
 unfolding recordsFrom flatten

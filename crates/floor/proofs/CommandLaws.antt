@@ -1,23 +1,14 @@
 -- The record of a command: a step on it is the step on the command, and it is made of bytes.
-use Prim.Native.Nat.{ℕ, _<_, _≤_}
+use Prim.Native.Nat.{_<_}
 use native.Mathlib.Omega.{arith}
 use mathlib.Core.Path.{_≡_, ap}
-use mathlib.Core.Bool.{true}
-use mathlib.Core.List.{List, [], _∷_}
-use borrow.Author.Tests.{leb-true}
 use Rattle.base.specs.Records.{Bytes}
-use Rattle.base.proofs.Choices.{both-true}
-use Rattle.floor.specs.Commands.{between, encodeOf}
+use Rattle.floor.specs.Commands.{encodeOf}
 use Rattle.floor.specs.Step.{applyOf, stepOf}
 use Rattle.floor.specs.declared.Floor.{Floor}
 use Rattle.floor.specs.declared.Command.{Command}
 use Rattle.floor.specs.declared.Command.the-variants.{Begin, ServeRead, ServeWrite, DeliverRead, DeliverWrite, Stop, Leave, Malformed}
 use Rattle.floor.proofs.Encodings.{decode-encode}
-
--- what the test of a range says
-pub between-means : (low high k : ℕ) → between low high k ≡ true → (low ≤ k) × (k ≤ high)
-unfolding between
-between-means low high k e = let p = both-true _ _ e in (leb-true _ _ (p .0), leb-true _ _ (p .1))
 
 -- the step on a command's record is the step on the command
 pub step-encode : (f : Floor) (c : Command) → stepOf f (encodeOf c) ≡ applyOf f c

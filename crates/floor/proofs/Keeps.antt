@@ -2,7 +2,7 @@
 use Prim.Native.Nat.{ℕ, zero, suc, _<_}
 use native.Mathlib.Omega.{arith}
 use native.Mathlib.Nat.{ne-of-lt}
-use mathlib.Core.Path.{_≡_, refl, ap, subst, _∙_}
+use mathlib.Core.Path.{_≡_, refl, ap, _∙_}
 use mathlib.Core.Bool.{true, false}
 use mathlib.Core.List.{List}
 use lib.ListN.{length, getD, set, length-set, getD-replicate}
@@ -19,7 +19,7 @@ use Rattle.floor.specs.Rows as rows
 use Rattle.floor.specs.Commands.{commandOf}
 use Rattle.floor.specs.Refusals.{refusalIn}
 use Rattle.floor.specs.Effects.{begun, servedRead, servedWrite, deliveredRead, deliveredWrite, effectIn}
-use Rattle.floor.specs.Step.{isRefused, look, put, playOf, applyOf, stepOf}
+use Rattle.floor.specs.Step.{isRefused, playOf, applyOf, stepOf}
 use Rattle.floor.specs.declared.WriteSlot.{WriteSlot}
 use Rattle.floor.specs.declared.Station.{Station}
 use Rattle.floor.specs.declared.Row.{Row}
@@ -35,7 +35,6 @@ use Rattle.floor.proofs.SoundLaws.{sound-means}
 use Rattle.floor.proofs.Standings.{clash}
 use Rattle.floor.proofs.Stores.{set-all, set-at}
 use Rattle.floor.proofs.Forms.{afterBegin}
-use Rattle.floor.proofs.StepLaws.{apply-accepted}
 use Rattle.floor.proofs.View.{StepView, turned, began, read-served, write-served, read-heard, issued, write-heard, decided, aborted, stopped, left, apply-view, apply-refusal}
 
 -- "Floor, record and reply stay unchanged": a refused step hands back the very floor
@@ -119,10 +118,6 @@ apply-keeps f c = keeps (apply-view f c)
 pub step-keeps : (f : Floor) (r : List ℕ) → Sound f → Sound (stepOf f r .floor)
 unfolding stepOf
 step-keeps f r = apply-keeps f (commandOf r)
-
--- a step accepted on a sound floor: the floor that its effect is stored into is sound, and what it says is no refusal
-pub put-keeps : (f : Floor) (c : Command) → Sound f → refusalIn (look f c) c ≡ 0 → Sound (put f c (effectIn (look f c) c .parts))
-put-keeps f c z e = subst (λ (s : Stepped). Sound (s .floor)) (apply-accepted f c z e) (apply-keeps f c z)
 
 abbrev Said : Changed → Type 0
 Said y = isRefused (y .outcome) ≡ false

@@ -1,15 +1,14 @@
 -- The loop of `run`: one record more, by the way that its step takes.
 use Prim.Native.Nat.{ℕ, suc, _+_, _-_, _*_, _/_, _<_, _≤_}
 use native.Mathlib.Omega.{arith}
-use native.Mathlib.Numerals.{add-one}
 use mathlib.Core.Path.{_≡_, refl, sym, ap, subst, _∙_}
 use mathlib.Core.List.{List}
-use mathlib.Core.Bool.{Bool, true, false}
+use mathlib.Core.Bool.{true, false}
 use lib.ListN.{length, getD, set}
 use lib.Seq.{take-all}
 use Rattle.base.specs.Choice.{if_then_else_}
 use Rattle.base.proofs.Choices.{on-true, on-false, by-test}
-use Rattle.floor.specs.State.{row0, box0, station0}
+use Rattle.floor.specs.State.{row0}
 use Rattle.floor.specs.Sound.{soundOf, Sound}
 use Rattle.floor.specs.Commands.{commandOf, attemptIn, boxIn, stationIn, placeIn}
 use Rattle.floor.specs.Refusals.{refusalIn}

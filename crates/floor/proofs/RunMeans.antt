@@ -1,16 +1,14 @@
 -- What a run says of its records: which were accepted, what they left, and which was refused.
-use Prim.Native.Nat.{ℕ, zero, suc, _+_, _<_, _≤_}
+use Prim.Native.Nat.{ℕ, zero, suc, _+_, _<_}
 use native.Mathlib.Omega.{arith}
-use mathlib.Core.Path.{_≡_, refl, sym, ap, subst, _∙_}
+use mathlib.Core.Path.{_≡_, refl, sym, subst}
 use mathlib.Core.List.{List, [], _∷_}
-use mathlib.Core.Bool.{Bool, true, false, false≢true}
-use lib.ListN.{length, getD, take}
-use Rattle.base.specs.Choice.{if_then_else_}
+use mathlib.Core.Bool.{true, false, false≢true}
+use lib.ListN.{getD, take}
 use Rattle.base.proofs.Choices.{by-test}
 use Rattle.floor.specs.Step.{stepOf, isRefused, numberOf}
 use Rattle.floor.specs.Runs.{runFrom, runOf, after, Told}
 use Rattle.floor.specs.declared.Floor.{Floor}
-use Rattle.floor.specs.declared.Stepped.{Stepped}
 use Rattle.floor.specs.declared.Ran.{Ran}
 use Rattle.floor.specs.declared.Outcome.{Outcome}
 use Rattle.floor.specs.declared.Outcome.the-variants.{Begun, Served, Received, Aborted, WriteIssued, Decided, Stopped, Gone, Refused}

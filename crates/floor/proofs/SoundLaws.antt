@@ -1,5 +1,5 @@
 -- What the tests of refusals 3 and 6 say, both ways, and the laws of a place.
-use Prim.Native.Nat.{ℕ, zero, suc, _<_, _≤_}
+use Prim.Native.Nat.{ℕ, zero, suc, _<_}
 use native.Mathlib.Omega.{arith}
 use native.Mathlib.Nat.{le-refl}
 use native.Mathlib.Numerals.{add-one}
@@ -66,8 +66,3 @@ place-below limit x h = by-test (λ (i : ℕ). i < limit) (ltb x limit) x 0 (λ 
 pub place-same : (limit x : ℕ) → x < limit → placeIn limit x ≡ x
 unfolding placeIn
 place-same limit x h = sym (on-true _ (lt-ltb x limit h) refl)
-
--- one past the end names the first place
-pub place-past : (limit x : ℕ) → limit ≤ x → placeIn limit x ≡ 0
-unfolding placeIn
-place-past limit x h = sym (on-false _ (le-ltb x limit h) refl)

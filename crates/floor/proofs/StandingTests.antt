@@ -4,7 +4,7 @@ use mathlib.Core.Path.{_≡_, refl, sym, ap, _∙_}
 use mathlib.Core.Bool.{Bool, true, false}
 use Rattle.base.proofs.Choices.{on-true, on-false}
 use Rattle.protocol.specs.Mask.{bit}
-use Rattle.floor.specs.State.{Standing, received, notReceived, standing, isWaiting, isOnTheWay}
+use Rattle.floor.specs.State.{received, notReceived, standing, isWaiting, isOnTheWay}
 use Rattle.floor.specs.declared.Stage.{Stage}
 
 module _ (s : Stage) (mask b : ℕ) where

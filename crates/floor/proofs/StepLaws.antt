@@ -24,10 +24,6 @@ module _ (f : Floor) (c : Command) where
   unfolding applyOf
   apply-unsound e = sym (on-false _ e refl)
 
-  pub apply-sound : Sound f → applyOf f c ≡ playOf f c
-  unfolding applyOf
-  apply-sound z = sym (on-true _ (sound-holds f z) refl)
-
   pub apply-refused : Sound f → ¬ (refusalIn (look f c) c ≡ 0) → applyOf f c ≡ refused f (refusalIn (look f c) c)
   unfolding applyOf playOf
   apply-refused z e = sym (on-true _ (sound-holds f z) (on-false _ (ne-eqb _ _ e) refl))

@@ -1,7 +1,7 @@
 -- Document 01, "Steps": what an accepted step does to the row, the box and the station that it names, and what came of it.
 use Prim.Native.Nat.{ℕ, _+_}
 use mathlib.Core.List.{List}
-use mathlib.Core.Bool.{Bool, true, false}
+use mathlib.Core.Bool.{true}
 use lib.ListN.{set}
 use Rattle.base.specs.Choice.{if_then_else_}
 use Rattle.protocol.specs.Mask.{setBit}

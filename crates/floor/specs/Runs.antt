@@ -2,12 +2,11 @@
 use Prim.Native.Nat.{ℕ, _+_, _<_, _≤_}
 use mathlib.Core.Path.{_≡_}
 use mathlib.Core.List.{List, [], _∷_}
-use mathlib.Core.Bool.{Bool, true, false}
+use mathlib.Core.Bool.{true, false}
 use Rattle.base.specs.Choice.{if_then_else_}
 use lib.ListN.{length, getD, take}
 use Rattle.floor.specs.Step.{stepOf, isRefused, numberOf}
 use Rattle.floor.specs.declared.Floor.{Floor}
-use Rattle.floor.specs.declared.Stepped.{Stepped}
 use Rattle.floor.specs.declared.Ran.{Ran}
 use Rattle.floor.specs.declared.Outcome.{Outcome}
 use Rattle.floor.specs.declared.Outcome.the-variants.{Refused}

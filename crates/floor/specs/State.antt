@@ -1,13 +1,12 @@
 -- Document 01, "The floor": what stands at a place, where a request stands, and the tests of a station's state.
 use Prim.Native.Nat.{ℕ}
-use mathlib.Core.List.{List, []}
+use mathlib.Core.List.{[]}
 use mathlib.Core.Bool.{Bool, true, false}
 use lib.ListN.{getD, replicate}
 use lib.Dec.{eqb}
 use Rattle.base.specs.Choice.{if_then_else_}
 use Rattle.base.specs.Numbers.{quorum}
 use Rattle.protocol.specs.Mask.{bit, countBelow}
-use Rattle.register.specs.declared.Register.{Register}
 use Rattle.register.specs.declared.StorageBox.{StorageBox}
 use Rattle.floor.specs.declared.Phase.{Phase}
 use Rattle.floor.specs.declared.Phase.the-variants.{Idle, Reading, Writing, Decided, Gone}

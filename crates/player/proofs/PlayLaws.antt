@@ -1,5 +1,5 @@
 -- Playing a file, by its header's answer.
-use Prim.Native.Nat.{ℕ, _+_, _-_, _*_, _/_, _≤_}
+use Prim.Native.Nat.{ℕ, _-_, _/_, _≤_}
 use native.Mathlib.Omega.{arith}
 use native.Mathlib.Nat.{add-zero}
 use mathlib.Core.Path.{_≡_, refl, sym, ap, ap₂, subst, _∙_}
@@ -16,11 +16,10 @@ use Rattle.base.proofs.RecordLaws.{records-drop}
 use Rattle.floor.specs.Floors.{emptyFloor, newFloorOf}
 use Rattle.floor.specs.Runs.{runOf, Told}
 use Rattle.floor.proofs.RunMeans.{run-told}
-use Rattle.drill_file.specs.DrillFile.{boxesOf, stationsOf, recordsStart, recordCount, fileRefusal, headerOf, recordsOf}
+use Rattle.drill_file.specs.DrillFile.{boxesOf, stationsOf, fileRefusal, headerOf, recordsOf}
 use Rattle.drill_file.proofs.FileLaws.{Values, refused-number, accepted-values}
 use Rattle.drill_file.proofs.TestLaws.{accepted-passed}
 use Rattle.player.specs.Played.{ofRun, playedOf}
-use Rattle.floor.specs.declared.Floor.{Floor}
 use Rattle.floor.specs.declared.NewFloor.{NewFloor}
 use Rattle.floor.specs.declared.Ran.{Ran}
 use Rattle.drill_file.specs.declared.Header.{Header}
