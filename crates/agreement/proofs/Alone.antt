@@ -8,19 +8,22 @@ use mathlib.Core.List.{List, [], _∷_, _++_}
 use lib.ListN.{length, getD}
 use Rattle.base.proofs.Choices.{by-test}
 use Rattle.register.specs.declared.StorageBox.{StorageBox}
-use Rattle.protocol.specs.Quorum.{indicator, count, Majority}
-use Rattle.protocol.proofs.QuorumLaws.{count-low}
-use Rattle.floor.specs.State.{box0}
-use Rattle.floor.specs.Commands.{commandOf, encodeOf}
+use Rattle.base.specs.Quorum.{indicator, count, Majority}
+use Rattle.base.proofs.QuorumLaws.{count-low}
+use Rattle.requests.specs.declared.Phase.{Phase}
+use Rattle.requests.specs.declared.Phase.the-variants.{Read, Write}
+use Rattle.register.specs.Register.{box0}
+use Rattle.commands.specs.Commands.{commandOf, encodeOf}
 use Rattle.floor.specs.declared.Floor.{Floor}
-use Rattle.floor.specs.declared.Command.{Command}
-use Rattle.floor.specs.declared.Command.the-variants.{Begin, ServeRead, ServeWrite, DeliverRead, DeliverWrite}
-use Rattle.floor.proofs.Standings.{clash}
-use Rattle.floor.proofs.Encodings.{decode-encode}
-use Rattle.solo.specs.Plan.{roundOf, answeringFrom, askedOf, exchange, exchanges, planOf}
-use Rattle.solo.specs.Progress.{Ready}
+use Rattle.commands.specs.declared.Command.{Command}
+use Rattle.commands.specs.declared.Command.the-variants.{Begin, Serve, Deliver}
+use Rattle.base.proofs.Cases.{clash, not-true-false}
+use Rattle.commands.proofs.Encodings.{decode-encode}
+use Rattle.solo.specs.Plan.{roundOf, answeringFrom, askedOf, exchange, exchanges, exchangesOf, planOf}
+use Rattle.solo.specs.Claims.{Ready}
 use Rattle.solo.proofs.RoundLaws.{round-smallest}
-use Rattle.agreement.specs.Words.{floorAt, Answering, IdleAt, attemptsBefore, RoundLeft}
+use Rattle.floor.specs.Runs.{floorAt}
+use Rattle.agreement.specs.Words.{Answering, IdleAt, attemptsBefore, RoundLeft}
 use Rattle.agreement.proofs.Reach.{New}
 use Rattle.agreement.proofs.Positions.{size-at}
 use Rattle.agreement.proofs.Standing.{stations-at, used-at, stopped-before, idle-state, round-outranks}
@@ -50,10 +53,6 @@ count-answering boxes (suc k) b set h =
     at-most true = omega arith
     at-most false = omega arith
 
-is-false : (t : Bool) → ¬ (t ≡ true) → t ≡ false
-is-false true h = absurd (h refl)
-is-false false h = refl
-
 -- the words of the list, on the floor before the step at i
 module _ (f : Floor) (l : List (List ℕ)) (new : New f) (s v i : ℕ) where
   pub ready : s < f .m → IdleAt f l s i → Majority (f .n) (Answering f l i) → attemptsBefore f l i < 64 → RoundLeft f l s i → 0 < v → Ready (floorAt f l i) s v
@@ -65,12 +64,12 @@ module _ (f : Floor) (l : List (List ℕ)) (new : New f) (s v i : ℕ) where
     row = omega (arith, used-at f l new i);
     boxes = rw (size-at f l i) (le-trans (boxes .large)
         (count-answering (floorAt f l i .boxes) (f .n) 0 (boxes .set) (λ j h t. subst (λ (b : ℕ). getD (floorAt f l i .boxes) b box0 .stopped ≡ false) (sym (zero-add j))
-        (is-false _ (λ e. boxes .each j h t (stopped-before f l new j i e))))));
+        (not-true-false _ (λ e. boxes .each j h t (stopped-before f l new j i e))))));
   }
 
 -- Of the records of the plan, a delivery of a write answer is one of the attempt a.
 abbrev Delivers : ℕ → List ℕ → Type 0
-Delivers a r = (x b : ℕ) → commandOf r ≡ DeliverWrite x b → x ≡ a
+Delivers a r = (x b : ℕ) → commandOf r ≡ Deliver Write x b → x ≡ a
 
 abbrev Each : (List ℕ → Type 0) → List (List ℕ) → Type 0
 Each P [] = Unit {0}
@@ -85,20 +84,19 @@ each-append : (P : List ℕ → Type 0) (l k : List (List ℕ)) → Each P l →
 each-append P [] k e g = g
 each-append P (r ∷ l) k e g = (e .0, each-append P l k (e .1) g)
 
-delivers : (a : ℕ) (c : Command) → ((x b : ℕ) → c ≡ DeliverWrite x b → x ≡ a) → Delivers a (encodeOf c)
+delivers : (a : ℕ) (c : Command) → ((x b : ℕ) → c ≡ Deliver Write x b → x ≡ a) → Delivers a (encodeOf c)
 delivers a c d x b q = d x b (sym (decode-encode c) ∙ q)
 
-exchanges-deliver : (a : ℕ) (write : Bool) (l : List ℕ) → Each (Delivers a) (exchanges write a l)
+exchanges-deliver : (a : ℕ) (p : Phase) (l : List ℕ) → Each (Delivers a) (exchanges p a l)
 unfolding exchanges exchange
-exchanges-deliver a write [] = tt
-exchanges-deliver a false (b ∷ l) = (delivers a (ServeRead a b) (λ x y q. cc), (delivers a (DeliverRead a b) (λ x y q. cc), exchanges-deliver a false l))
-exchanges-deliver a true (b ∷ l) = (delivers a (ServeWrite a b) (λ x y q. cc), (delivers a (DeliverWrite a b) (λ x y q. cc), exchanges-deliver a true l))
+exchanges-deliver a p [] = tt
+exchanges-deliver a p (b ∷ l) = (delivers a (Serve p a b) (λ x y q. cc), (delivers a (Deliver p a b) (λ x y q. cc), exchanges-deliver a p l))
 
 plan-each : (g : Floor) (s v : ℕ) → Each (Delivers (g .used)) (planOf g s v)
-unfolding planOf
+unfolding exchangesOf
 plan-each g s v = (
   delivers (g .used) (Begin s (roundOf g s) v) (λ x b q. cc),
-  each-append (Delivers (g .used)) (exchanges false (g .used) (askedOf g)) _ (exchanges-deliver (g .used) false (askedOf g)) (exchanges-deliver (g .used) true (askedOf g)),
+  each-append (Delivers (g .used)) (exchanges Read (g .used) (askedOf g)) _ (exchanges-deliver (g .used) Read (askedOf g)) (exchanges-deliver (g .used) Write (askedOf g)),
 )
 
 pub plan-delivers : (g : Floor) (s v i : ℕ) → i < length (planOf g s v) → Delivers (g .used) (getD (planOf g s v) i [])

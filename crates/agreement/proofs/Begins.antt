@@ -1,38 +1,29 @@
 -- A begin: the floor after it shows the history with the offer.
-use Prim.Native.Nat.{ℕ, zero, suc, _+_, _/_, _%_, _≤_, _<_}
+use Prim.Native.Nat.{ℕ, _+_, _/_, _%_, _≤_, _<_}
 use native.Mathlib.Nat.{le-refl, le-trans}
 use native.Mathlib.Omega.{arith}
 use mathlib.Core.Path.{_≡_, refl, sym, ap, subst, _∙_}
-use mathlib.Core.Bool.{false}
 use mathlib.Core.List.{List, _∷_, List·Memᴰ·head}
 use lib.ListN.{getD, set}
 use Rattle.base.specs.Numbers.{rankOf}
 use Rattle.protocol.specs.Trace.{took, note, Edit, there, other, other-event}
-use Rattle.protocol.proofs.MaskLaws.{bit-zero}
-use Rattle.floor.specs.State.{station0, row0, readSlot0, writeSlot0, stationAt, rowAt}
-use Rattle.floor.specs.Sound.{Sound, Lengths}
-use Rattle.floor.specs.Rows.{readsWaiting, newRow}
-use Rattle.floor.specs.declared.Station.{Station}
-use Rattle.floor.specs.declared.ReadSlot.{ReadSlot}
-use Rattle.floor.specs.declared.WriteSlot.{WriteSlot}
-use Rattle.floor.specs.declared.Row.{Row}
+use Rattle.base.proofs.MaskLaws.{bit-zero}
+use Rattle.requests.specs.Requests.{slot0}
+use Rattle.requests.specs.declared.Slot.{Slot}
+use Rattle.attempts.specs.Stations.{station0}
+use Rattle.attempts.specs.Rows.{row0, answer0, newRow}
+use Rattle.floor.specs.Floors.{stationAt, rowAt}
+use Rattle.floor.specs.Claims.{Sound, Lengths, CanBegin}
+use Rattle.attempts.specs.declared.Station.{Station}
+use Rattle.attempts.specs.declared.Row.{Row}
 use Rattle.floor.specs.declared.Floor.{Floor}
-use Rattle.floor.proofs.Standings.{clash}
-use Rattle.floor.proofs.Forms.{beginner, afterBegin}
-use Rattle.floor.proofs.View.{CanBegin}
+use Rattle.base.proofs.Cases.{clash}
+use Rattle.floor.specs.Effects.{beginner, afterBegin}
 use Rattle.floor.proofs.Keeps.{row-stored, station-stored}
-use Rattle.floor.proofs.Stores.{set-all, set-in, edit-set, getD-same}
-use Rattle.agreement.proofs.History.{offered, Happening, History, Unwritten, unwritten-more, isAnswered, isIssued, Paired, RowShows, station-kept-by, stations-stored, Shows, row-more}
+use Rattle.base.proofs.Stores.{set-all, set-in, getD-same}
+use Rattle.agreement.proofs.Edits.{edit-set}
+use Rattle.agreement.proofs.History.{offered, Happening, History, Unwritten, unwritten-more, isAnswered, isIssued, waiting-unanswered, RowShows, station-kept-by, stations-stored, Shows, row-more}
 use Rattle.agreement.proofs.Serves.{StepTo}
-
--- a request that waits has no answer
-abbrev Unread : ReadSlot → Type 0
-Unread x = (isAnswered (x .stage) ≡ false) × Paired (x .rank) (x .value)
-
-waiting-unread : (k b : ℕ) → Unread (getD (readsWaiting k) b readSlot0)
-unfolding readsWaiting
-waiting-unread zero b = rw (getD-same 9 b readSlot0) (refl, (λ e. refl, λ h. h))
-waiting-unread (suc k) b = set-all readSlot0 (λ (j : ℕ) (x : ReadSlot). Unread x) (readsWaiting k) k _ (waiting-unread k) (refl, (λ e. refl, λ h. h)) b
 
 module _ {f : Floor} {l : History} (s : Shows f l) (y : Lengths f) (z : Sound f) (t round v : ℕ) (d : CanBegin f t round v) where
   abbrev rank : ℕ
@@ -72,16 +63,16 @@ module _ {f : Floor} {l : History} (s : Shows f l) (y : Lengths f) (z : Sound f)
     offer = List·Memᴰ·head refl;
     reads = record {
       received = λ b m. clash m (bit-zero b);
-      answered = λ b h. clash h (waiting-unread (f .n) b .0);
-      paired = λ b. waiting-unread (f .n) b .1;
+      answered = λ b h. clash h (waiting-unanswered (f .n) b);
+      paired = λ b. rw (getD-same 9 b answer0) (λ e. refl, λ h. h);
     };
     writes = record {
       received = λ b m. clash m (bit-zero b);
-      after-issue = λ b h. clash h (ap (λ (x : WriteSlot). isIssued (x .stage)) (getD-same 9 b writeSlot0));
+      after-issue = λ b h. clash h (ap (λ (x : Slot). isIssued (x .stage)) (getD-same 9 b slot0));
       issue = λ h. absurd (omega arith);
       unwritten = λ _. unwritten;
-      taken = λ b h. clash h (ap (λ (x : WriteSlot). isAnswered (x .stage)) (getD-same 9 b writeSlot0));
-      refusal = λ b h. clash h (ap (λ (x : WriteSlot). isAnswered (x .stage)) (getD-same 9 b writeSlot0));
+      taken = λ b h. clash h (ap (λ (x : Slot). isAnswered (x .stage)) (getD-same 9 b slot0));
+      refusal = λ b h. clash h (ap (λ (x : Slot). isAnswered (x .stage)) (getD-same 9 b slot0));
       only = λ b m. absurd (unwritten (took rank b) m refl);
     };
   }

@@ -10,31 +10,33 @@ use lib.ListN.{length, getD, List·getD-eq-default}
 use borrow.Author.Tests.{lt-leb}
 use Rattle.base.specs.Choice.{if_then_else_}
 use Rattle.base.proofs.Choices.{on-true, on-false}
-use Rattle.floor.specs.State.{stationAt, isGone, isBusy}
-use Rattle.floor.specs.Sound.{Sound}
-use Rattle.floor.specs.Commands.{between, commandOf}
+use Rattle.floor.specs.Floors.{stationAt}
+use Rattle.attempts.specs.Stations.{isGone, isBusy}
+use Rattle.floor.specs.Claims.{Sound, StationMove, station-kept, station-begins, station-issues, station-decides, station-aborts, station-leaves}
+use Rattle.commands.specs.Commands.{between, commandOf}
 use Rattle.floor.specs.Refusals.{beginRefusal}
-use Rattle.floor.specs.Step.{isRefused, look, applyOf, stepOf}
-use Rattle.floor.specs.declared.Phase.{Phase}
-use Rattle.floor.specs.declared.Phase.the-variants.{Idle, Reading, Writing, Decided, Gone}
-use Rattle.floor.specs.declared.Station.{Station}
+use Rattle.commands.specs.Outcomes.{isRefused}
+use Rattle.floor.specs.Step.{applyOf, stepOf}
+use Rattle.attempts.specs.declared.State.{State}
+use Rattle.attempts.specs.declared.State.the-variants.{Idle, Reading, Writing, Decided, Gone}
+use Rattle.attempts.specs.declared.Station.{Station}
 use Rattle.floor.specs.declared.Floor.{Floor}
 use Rattle.floor.specs.declared.Stepped.{Stepped}
-use Rattle.floor.specs.declared.Command.{Command}
-use Rattle.floor.specs.declared.Command.the-variants.{Begin, Malformed}
-use Rattle.floor.specs.declared.Outcome.{Outcome}
-use Rattle.floor.specs.declared.Outcome.the-variants as said
-use Rattle.floor.proofs.Standings.{clash, is-reading, is-writing, is-idle}
-use Rattle.floor.proofs.SoundLaws.{place-same}
+use Rattle.commands.specs.declared.Command.{Command}
+use Rattle.commands.specs.declared.Command.the-variants.{Begin, Malformed}
+use Rattle.commands.specs.declared.Outcome.{Outcome}
+use Rattle.commands.specs.declared.Outcome.the-variants as said
+use Rattle.base.proofs.Cases.{clash, up-to}
+use Rattle.attempts.proofs.StationTests.{is-reading, is-writing, is-idle}
 use Rattle.floor.proofs.StepLaws.{apply-refused}
-use Rattle.floor.proofs.View.{StepView, turned, step-view}
+use Rattle.floor.proofs.StepCases.{StepCase, turned, step-case}
 use Rattle.floor.proofs.Keeps.{new-sound}
-use Rattle.floor.proofs.Moves.{StationMove, station-kept, station-begins, station-issues, station-decides, station-aborts, station-leaves, apply-station}
-use Rattle.agreement.specs.Words.{commandAt, floorAt, saidAt, DecidesAt, shownAt}
+use Rattle.floor.proofs.Moves.{apply-station}
+use Rattle.agreement.specs.Words.{commandAt, DecidesAt, shownAt}
+use Rattle.floor.specs.Runs.{floorAt, saidAt}
 use Rattle.agreement.specs.Demand.{firstFloor}
 use Rattle.agreement.specs.Consequences.{Consequences}
 use Rattle.agreement.proofs.Reach.{New, new-floor}
-use Rattle.agreement.proofs.Positions.{up-to}
 use Rattle.agreement.proofs.Safety.{agreement, decision-of, decider-at, shown-decided, shown-still}
 use Rattle.agreement.proofs.Standing.{stations-at, sound-at}
 
@@ -43,7 +45,7 @@ no-bytes : commandOf [] ≡ Malformed
 unfolding commandOf between if_then_else_
 no-bytes = refl
 
-malformed : {f : Floor} {s : Stepped} → StepView f Malformed s → isRefused (s .outcome) ≡ true
+malformed : {f : Floor} {s : Stepped} → StepCase f Malformed s → isRefused (s .outcome) ≡ true
 malformed (turned k t) = refl
 
 -- a begin for a station that is gone or busy
@@ -51,30 +53,27 @@ module _ (f : Floor) (z : Sound f) (s round v : ℕ) (h : s < f .m) where
   abbrev c : Command
   c = Begin s round v
 
-  state-seen : look f c .station .state ≡ stationAt f s .state
-  state-seen = ap (λ (j : ℕ). stationAt f j .state) (place-same 16 s (omega (arith, z .station-most)))
-
-  begin-refused : (k : ℕ) → 0 < k → beginRefusal (look f c) s round v ≡ k → applyOf f c .outcome ≡ said.Refused k
+  begin-refused : (k : ℕ) → 0 < k → beginRefusal f s round v ≡ k → applyOf f c .outcome ≡ said.Refused k
   begin-refused k p q = ap (λ (x : Stepped). x .outcome) (apply-refused f c z (λ e. omega arith)) ∙ ap said.Refused q
 
   begin-gone : isGone (stationAt f s .state) ≡ true → applyOf f c .outcome ≡ said.Refused 9
   unfolding beginRefusal
-  begin-gone g = begin-refused 9 (omega arith) (sym (on-false _ (lt-leb _ _ h) (on-true _ (ap isGone state-seen ∙ g) refl)))
+  begin-gone g = begin-refused 9 (omega arith) (sym (on-false _ (lt-leb _ _ h) (on-true _ g refl)))
 
   begin-busy : isGone (stationAt f s .state) ≡ false → isBusy (stationAt f s .state) ≡ true → applyOf f c .outcome ≡ said.Refused 10
   unfolding beginRefusal
   begin-busy g b =
-      begin-refused 10 (omega arith) (sym (on-false _ (lt-leb _ _ h) (on-false _ (ap isGone state-seen ∙ g) (on-true _ (ap isBusy state-seen ∙ b) refl))))
+      begin-refused 10 (omega arith) (sym (on-false _ (lt-leb _ _ h) (on-false _ g (on-true _ b refl))))
 
 -- a station that is gone, or that decided
-abbrev isOver : Phase → Bool
+abbrev isOver : State → Bool
 isOver Idle = false
 isOver (Reading a) = false
 isOver (Writing a) = false
 isOver (Decided a) = true
 isOver Gone = true
 
-begin-over : (f : Floor) → Sound f → (s round v : ℕ) → s < f .m → (p : Phase) → stationAt f s .state ≡ p → isOver p ≡ true
+begin-over : (f : Floor) → Sound f → (s round v : ℕ) → s < f .m → (p : State) → stationAt f s .state ≡ p → isOver p ≡ true
     → (applyOf f (Begin s round v) .outcome ≡ said.Refused 9) ⊎ (applyOf f (Begin s round v) .outcome ≡ said.Refused 10)
 begin-over f z s r v h Idle e o = clash o refl
 begin-over f z s r v h (Reading a) e o = clash o refl
@@ -97,7 +96,7 @@ module _ (f : Floor) (l : List (List ℕ)) (new : New f) where
     | yes h ↦ h
     | no h ↦ (
         let q : commandAt l i ≡ Malformed = ap commandOf (List·getD-eq-default l [] {n = i} (omega arith)) ∙ no-bytes in
-        clash (malformed (subst (λ (c : Command). StepView (floorAt f l i) c (stepOf (floorAt f l i) (getD l i []))) q (step-view (floorAt f l i) (getD l i [])))) e)
+        clash (malformed (subst (λ (c : Command). StepCase (floorAt f l i) c (stepOf (floorAt f l i) (getD l i []))) q (step-case (floorAt f l i) (getD l i [])))) e)
   ]
 
   -- the station of a decision is one of the floor's

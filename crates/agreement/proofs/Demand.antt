@@ -3,62 +3,47 @@ use Prim.Native.Nat.{ℕ, zero, suc, _+_, _≤_, _<_}
 use native.Mathlib.Omega.{arith}
 use mathlib.Core.Path.{_≡_, refl, sym, ap, subst, _∙_}
 use mathlib.Core.Bool.{false}
-use mathlib.Core.List.{List, [], _∷_, _++_}
+use mathlib.Core.List.{List, [], _++_}
 use lib.ListN.{length, getD, take}
-use lib.Seq.{getD-take, getD-append-add}
-use Rattle.protocol.proofs.QuorumLaws.{at-least-map}
-use Rattle.floor.specs.State.{rowAt}
-use Rattle.floor.specs.Rows.{newRow}
-use Rattle.floor.specs.Commands.{commandOf}
-use Rattle.floor.specs.Step.{isRefused, stepOf}
-use Rattle.floor.specs.declared.Row.{Row}
+use lib.Seq.{getD-take, getD-append-add, length-take-le}
+use Rattle.base.proofs.QuorumLaws.{at-least-map}
+use Rattle.floor.specs.Floors.{rowAt}
+use Rattle.attempts.specs.Rows.{newRow}
+use Rattle.commands.specs.Commands.{commandOf}
+use Rattle.commands.specs.Outcomes.{isRefused}
+use Rattle.floor.specs.Step.{stepOf}
+use Rattle.attempts.specs.declared.Row.{Row}
 use Rattle.floor.specs.declared.Floor.{Floor}
 use Rattle.floor.specs.declared.Stepped.{Stepped}
-use Rattle.floor.specs.declared.Command.{Command}
-use Rattle.floor.specs.declared.Command.the-variants.{Begin}
-use Rattle.floor.specs.declared.Outcome.{Outcome}
-use Rattle.floor.specs.declared.Outcome.the-variants as said
-use Rattle.floor.proofs.Standings.{clash}
-use Rattle.floor.proofs.Encodings.{decode-encode}
-use Rattle.floor.proofs.View.{StepView, turned, began, step-view}
-use Rattle.floor.specs.Sound.{Lengths}
+use Rattle.commands.specs.declared.Command.{Command}
+use Rattle.commands.specs.declared.Command.the-variants.{Begin}
+use Rattle.commands.specs.declared.Outcome.the-variants as said
+use Rattle.base.proofs.Cases.{clash}
+use Rattle.commands.proofs.Encodings.{decode-encode}
+use Rattle.floor.proofs.StepCases.{StepCase, turned, began, step-case}
+use Rattle.floor.specs.Claims.{Lengths}
 use Rattle.floor.proofs.Keeps.{row-stored}
 use Rattle.floor.proofs.RowLaws.{apply-used, row-same}
 use Rattle.solo.specs.Plan.{roundOf, planOf}
 use Rattle.solo.specs.Solo.{soloOf}
-use Rattle.solo.specs.Counted.{saidBy, AllAccepted, lastSaid, Counted}
-use Rattle.solo.specs.Progress.{Lawful, Ready, Decides}
+use Rattle.solo.specs.Claims.{Counted, Lawful, Ready, DecidesAlone}
 use Rattle.solo.specs.declared.Solo.{Solo}
 use Rattle.solo.proofs.CountLaws.{solo-counted}
 use Rattle.base.proofs.RecordLaws.{all-take}
 use Rattle.solo.proofs.LawfulLaws.{after-lawful, new-lawful}
 use Rattle.solo.proofs.Decides.{solo-decides}
 use Rattle.solo.proofs.PlanRecords.{plan-records}
-use Rattle.agreement.specs.Words.{commandAt, floorAt, floorLeft, saidAt, DecidesAt}
-use Rattle.agreement.specs.Demand.{firstFloor, DrivenAlone, Demand3}
+use Rattle.agreement.specs.Words.{commandAt, DecidesAt}
+use Rattle.floor.specs.Runs.{floorAt, floorLeft, saidAt}
+use Rattle.agreement.specs.Demand.{firstFloor, DrivenAlone, Demand3Theorem}
 use Rattle.agreement.proofs.Reach.{New, new-floor}
 use Rattle.agreement.proofs.Positions.{size-at, means-at}
 use Rattle.agreement.proofs.Safety.{decides-at, safety}
-use Rattle.agreement.proofs.Lists.{said-shift, floor-behind, said-behind, left-behind, left-after}
+use Rattle.floor.proofs.ListLaws.{floor-behind, said-behind, left-behind, said-taken, left-taken}
 use Rattle.agreement.proofs.Alone.{ready, plan-delivers}
 
--- what a list of steps said, by position
-said-accepted : (g : Floor) (l : List (List ℕ)) → AllAccepted (saidBy g l) → (i : ℕ) → i < length l → isRefused (saidAt g l i) ≡ false
-unfolding saidBy floorAt
-said-accepted g [] e i h = absurd (omega arith)
-said-accepted g (r ∷ l) e zero h = e .0
-said-accepted g (r ∷ l) e (suc i) h = ap isRefused (said-shift g r l i) ∙ said-accepted (stepOf g r .floor) l (e .1) i (omega arith)
-
-said-last : (g : Floor) (o : Outcome) (l : List (List ℕ)) (i : ℕ) → suc i ≡ length l → saidAt g l i ≡ lastSaid o (saidBy g l)
-unfolding saidBy floorAt
-said-last g o [] i q = absurd (omega arith)
-said-last g o (r ∷ []) zero q = refl
-said-last g o (r ∷ []) (suc i) q = absurd (omega arith)
-said-last g o (r ∷ t ∷ l) zero q = absurd (omega arith)
-said-last g o (r ∷ t ∷ l) (suc i) q = said-shift g r (t ∷ l) i ∙ said-last (stepOf g r .floor) (stepOf g r .outcome) (t ∷ l) i (omega arith)
-
 -- an accepted begin puts the next row into use, for its station
-begun-row : {f : Floor} {st : Stepped} (s round v : ℕ) → Lengths f → StepView f (Begin s round v) st → isRefused (st .outcome) ≡ false
+begun-row : {f : Floor} {st : Stepped} (s round v : ℕ) → Lengths f → StepCase f (Begin s round v) st → isRefused (st .outcome) ≡ false
     → (f .used < st .floor .used) × (rowAt (st .floor) (f .used) .station ≡ s)
 unfolding newRow
 begun-row s r v y (turned k t) e = clash refl e
@@ -68,7 +53,7 @@ begun-row {f} s r v y (began z d) e = (omega arith, ap (λ (w : Row). w .station
 module _ (g : Floor) (y : Lengths g) (l : List (List ℕ)) (s round v : ℕ) (first : commandAt l 0 ≡ Begin s round v) (ok : isRefused (saidAt g l 0) ≡ false) where
   own-row : (i : ℕ) → (g .used < floorAt g l (suc i) .used) × (rowAt (floorAt g l (suc i)) (g .used) .station ≡ s)
   unfolding floorAt stepOf
-  own-row zero = begun-row s round v y (subst (λ (c : Command). StepView g c (stepOf g (getD l 0 []))) first (step-view g (getD l 0 []))) ok
+  own-row zero = begun-row s round v y (subst (λ (c : Command). StepCase g c (stepOf g (getD l 0 []))) first (step-case g (getD l 0 []))) ok
   own-row (suc i) =
       let o = own-row i in (
         omega (arith, apply-used (floorAt g l (suc i)) (commandAt l (suc i)), o .0),
@@ -91,25 +76,29 @@ module _ (f : Floor) (l : List (List ℕ)) (new : New f) (s v : ℕ) (y : Lawful
   counted-steps : Counted g plan d
   counted-steps = solo-counted g s v
 
-  decided-steps : Decides g d
+  decided-steps : DecidesAlone g d
   decided-steps = solo-decides g s v y x
+
+  number : d .steps ≡ length steps
+  number = sym (length-take-le (d .steps) plan (counted-steps .within))
 
   -- a record of its steps is one of its plan
   step-planned : (i : ℕ) → i < length steps → (i < length plan) × (getD steps i [] ≡ getD plan i [])
-  step-planned i k = let i-below : i < d .steps = omega (arith, counted-steps .number) in (omega (arith, counted-steps .within), getD-take (d .steps) plan i [] i-below)
+  step-planned i k = (omega (arith, counted-steps .within, number), getD-take (d .steps) plan i [] (omega (arith, number)))
 
   accepted : (i : ℕ) → i < length steps → isRefused (saidAt g steps i) ≡ false
-  accepted = said-accepted g steps (counted-steps .accepted)
+  accepted i k = let h : i < d .steps = omega (arith, number) in ap isRefused (said-taken g plan (d .steps) i h) ∙ counted-steps .accepted i h
 
   -- its last step says decided
   last-said : (i : ℕ) → suc i ≡ length steps → saidAt g steps i ≡ said.Decided (decided-steps .revision)
-  last-said i q = said-last g (said.Begun 0) steps i q ∙ counted-steps .last (ap isRefused (decided-steps .said)) ∙ decided-steps .said
+  last-said i q =
+      said-taken g plan (d .steps) i (omega (arith, number))
+      ∙ counted-steps .last (ap isRefused (decided-steps .said)) i (omega (arith, number)) ∙ decided-steps .said
 
   some : 5 ≤ length steps
-  some = omega (arith, counted-steps .number, decided-steps .steps)
+  some = omega (arith, number, decided-steps .steps)
 
   first-step : commandAt steps 0 ≡ Begin s (roundOf g s) v
-  unfolding planOf
   first-step = ap commandOf (step-planned 0 (omega (arith, some)) .1) ∙ decode-encode (Begin s (roundOf g s) v)
 
   decides : (i : ℕ) → suc i ≡ length steps → DecidesAt f (l ++ steps) s (decided-steps .revision) (length l + i)
@@ -131,17 +120,17 @@ module _ (f : Floor) (l : List (List ℕ)) (new : New f) (s v : ℕ) (y : Lawful
     steps = steps;
     records = all-take (d .steps) plan (plan-records g s v (omega (arith, x .station, y .sound .station-most)) h (x .round) (omega (arith, x .row)) (omega (arith, y .sound .box-most)));
     accepted = λ i k. ap isRefused (said-behind f l steps i) ∙ accepted i k;
-    floor = left-behind f l steps ∙ left-after g steps ∙ sym (counted-steps .reached);
+    floor = left-behind f l steps ∙ left-taken g plan (d .steps) (counted-steps .within) ∙ sym (counted-steps .reached);
     revision = decided-steps .revision;
     decides = decides;
     outcome = decided-steps .said;
-    number = counted-steps .number;
+    number = number;
     count = omega (arith, decided-steps .steps, size-at f l (length l));
   }
 
-pub demand3 : (n m : ℕ) (l : List (List ℕ)) → Demand3 n m l
+pub demand3 : Demand3Theorem
 demand3 n m l = let f = firstFloor n m in let new = new-floor n m in record {
   safety = safety n m l;
   solo = λ s v place idle boxes few round offer h.
-      alone f l new s v (subst Lawful (sym (left-after f l)) (after-lawful l f (new-lawful n m))) (ready f l new s v (length l) place idle (at-least-map (omega arith) (λ b a. a) boxes) (omega arith) round (omega arith)) (omega arith);
+      alone f l new s v (after-lawful f l (length l) (new-lawful n m)) (ready f l new s v (length l) place idle (at-least-map (omega arith) (λ b a. a) boxes) (omega arith) round (omega arith)) (omega arith);
 }

@@ -1,5 +1,5 @@
 -- The history of a run, for the theory of crate `protocol`, and the relation between a floor and its history.
-use Prim.Native.Nat.{ℕ, suc, _/_, _%_, _≤_, _<_}
+use Prim.Native.Nat.{ℕ, zero, suc, _/_, _%_, _≤_, _<_}
 use native.Mathlib.Omega.{arith}
 use mathlib.Core.Path.{_≡_, refl, sym, ap, subst, _∙_}
 use mathlib.Core.Logic.{inl, inr}
@@ -7,21 +7,25 @@ use mathlib.Core.Bool.{Bool, true, false}
 use mathlib.Core.List.{List, _∷_, List·Memᴰ, List·Memᴰ·tail, List·Memᴰ·cases-cons}
 use lib.ListN.{length, getD, set}
 use Rattle.register.specs.declared.StorageBox.{StorageBox}
-use Rattle.protocol.specs.Mask.{bit}
 use Rattle.protocol.specs.Trace.{Box, Event, read, issued, took, refused, note}
 use Rattle.protocol.specs.Claims.{Persistent}
-use Rattle.floor.specs.State.{box0, station0, row0, readSlot0, writeSlot0, boxAt, stationAt, rowAt}
-use Rattle.floor.specs.declared.Phase.{Phase}
-use Rattle.floor.specs.declared.Phase.the-variants.{Idle, Reading, Writing, Decided, Gone}
-use Rattle.floor.specs.declared.Stage.{Stage}
-use Rattle.floor.specs.declared.Stage.the-variants.{Unissued, Waiting, Answered}
-use Rattle.floor.specs.declared.Station.{Station}
-use Rattle.floor.specs.declared.ReadSlot.{ReadSlot}
-use Rattle.floor.specs.declared.WriteSlot.{WriteSlot}
-use Rattle.floor.specs.declared.Row.{Row}
+use Rattle.requests.specs.Requests.{slot0, slotAt, heardFrom, slotWaiting, waitingBelow, issuedTo}
+use Rattle.requests.specs.declared.Slot.{Slot}
+use Rattle.requests.specs.declared.Requests.{Requests}
+use Rattle.register.specs.Register.{box0}
+use Rattle.attempts.specs.Stations.{station0}
+use Rattle.attempts.specs.Rows.{row0, answer0}
+use Rattle.floor.specs.Floors.{boxAt, stationAt, rowAt}
+use Rattle.attempts.specs.declared.State.{State}
+use Rattle.attempts.specs.declared.State.the-variants.{Idle, Reading, Writing, Decided, Gone}
+use Rattle.requests.specs.declared.Stage.{Stage}
+use Rattle.requests.specs.declared.Stage.the-variants.{Unissued, Waiting, Answered}
+use Rattle.attempts.specs.declared.Station.{Station}
+use Rattle.attempts.specs.declared.Answer.{Answer}
+use Rattle.attempts.specs.declared.Row.{Row}
 use Rattle.floor.specs.declared.Floor.{Floor}
-use Rattle.floor.specs.Sound.{Lengths}
-use Rattle.floor.proofs.Stores.{set-all, set-in}
+use Rattle.floor.specs.Claims.{Lengths}
+use Rattle.base.proofs.Stores.{set-all, set-in, getD-same}
 
 -- What a history keeps besides reads and writes: a revision offered, or nothing.
 pub data Note : Type 0 where
@@ -46,8 +50,8 @@ offered-stays e l v m = List·Memᴰ·tail m
 abbrev pub toBox : StorageBox → Box ℕ
 toBox x = record { readRank = x .register .read; writeRank = x .register .write; value = x .register .value }
 
-abbrev pub boxesOf : Floor → ℕ → Box ℕ
-boxesOf f b = toBox (boxAt f b)
+abbrev pub registersOf : Floor → ℕ → Box ℕ
+registersOf f b = toBox (boxAt f b)
 
 -- 1 more than the rank at which an event issues or takes a write; 0 for every other event
 abbrev pub writerOf : Happening → ℕ
@@ -74,38 +78,44 @@ isIssued Unissued = false
 isIssued Waiting = true
 isIssued Answered = true
 
+-- a request that waits is not answered
+pub waiting-unanswered : (k j : ℕ) → isAnswered (slotAt (issuedTo k) j .stage) ≡ false
+unfolding waitingBelow
+waiting-unanswered zero j = ap (λ (x : Slot). isAnswered (x .stage)) (getD-same 9 j slot0)
+waiting-unanswered (suc k) j = set-all slot0 (λ (i : ℕ) (x : Slot). isAnswered (x .stage) ≡ false) (waitingBelow k) k slotWaiting (waiting-unanswered k) refl j
+
 -- a write rank and a value, of a box or of its answer: a value is held exactly where a rank wrote it
 abbrev pub Paired : ℕ → ℕ → Type 0
 Paired w x = (w ≡ 0 → x ≡ 0) × (0 < w → 0 < x)
 
 -- The relation, part by part. Its parameters are values and not places of the floor, so that what a step leaves alone is handed on as
 -- it is. The reads of a row: what was received was answered, and each answer was given at that box.
-pub record ReadsShow (rank : ℕ) (reads : List ReadSlot) (readers : ℕ) (l : History) : Type 0 where
-  pub received : (b : ℕ) → bit readers b ≡ true → isAnswered (getD reads b readSlot0 .stage) ≡ true
-  pub answered : (b : ℕ) → isAnswered (getD reads b readSlot0 .stage) ≡ true → List·Memᴰ (read rank b (getD reads b readSlot0 .rank) (getD reads b readSlot0 .value)) l
-  pub paired : (b : ℕ) → Paired (getD reads b readSlot0 .rank) (getD reads b readSlot0 .value)
+pub record ReadsShow (rank : ℕ) (requests : Requests) (answers : List Answer) (l : History) : Type 0 where
+  pub received : (b : ℕ) → heardFrom requests b ≡ true → isAnswered (slotAt requests b .stage) ≡ true
+  pub answered : (b : ℕ) → isAnswered (slotAt requests b .stage) ≡ true → List·Memᴰ (read rank b (getD answers b answer0 .rank) (getD answers b answer0 .value)) l
+  pub paired : (b : ℕ) → Paired (getD answers b answer0 .rank) (getD answers b answer0 .value)
 
 -- The writes of a row: they were issued with the row's revision, and each answer was given at that box; no other write of this rank
 -- was taken.
-pub record WritesShow (rank written : ℕ) (writes : List WriteSlot) (writers : ℕ) (l : History) : Type 0 where
-  pub received : (b : ℕ) → bit writers b ≡ true → isAnswered (getD writes b writeSlot0 .stage) ≡ true
-  pub after-issue : (b : ℕ) → isIssued (getD writes b writeSlot0 .stage) ≡ true → 0 < written
+pub record WritesShow (rank written : ℕ) (requests : Requests) (l : History) : Type 0 where
+  pub received : (b : ℕ) → heardFrom requests b ≡ true → isAnswered (slotAt requests b .stage) ≡ true
+  pub after-issue : (b : ℕ) → isIssued (slotAt requests b .stage) ≡ true → 0 < written
   pub issue : 0 < written → List·Memᴰ (issued rank written) l
   pub unwritten : written ≡ 0 → Unwritten l rank
-  pub taken : (b : ℕ) → isAnswered (getD writes b writeSlot0 .stage) ≡ true → getD writes b writeSlot0 .taken ≡ true → List·Memᴰ (took rank b) l
-  pub refusal : (b : ℕ) → isAnswered (getD writes b writeSlot0 .stage) ≡ true → getD writes b writeSlot0 .taken ≡ false → List·Memᴰ (refused rank b) l
-  pub only : (b : ℕ) → List·Memᴰ (took rank b) l → (isAnswered (getD writes b writeSlot0 .stage) ≡ true) × (getD writes b writeSlot0 .taken ≡ true)
+  pub taken : (b : ℕ) → isAnswered (slotAt requests b .stage) ≡ true → slotAt requests b .ok ≡ true → List·Memᴰ (took rank b) l
+  pub refusal : (b : ℕ) → isAnswered (slotAt requests b .stage) ≡ true → slotAt requests b .ok ≡ false → List·Memᴰ (refused rank b) l
+  pub only : (b : ℕ) → List·Memᴰ (took rank b) l → (isAnswered (slotAt requests b .stage) ≡ true) × (slotAt requests b .ok ≡ true)
 
 pub record RowShows (w : Row) (l : History) : Type 0 where
   pub positive : 0 < w .rank
   pub place : w .rank % 16 ≡ w .station
   pub revision : 0 < w .offer
   pub offer : Offered l (w .offer)
-  pub reads : ReadsShow (w .rank) (w .reads) (w .readers) l
-  pub writes : WritesShow (w .rank) (w .written) (w .writes) (w .writers) l
+  pub reads : ReadsShow (w .rank) (w .read) (w .answers) l
+  pub writes : WritesShow (w .rank) (w .written) (w .write) l
 
 -- The station j that shows the decided revision v: where it reads or writes, it is in a row in use of its own.
-abbrev pub StationShows : ℕ → List Row → ℕ → ℕ → Phase → Type 0
+abbrev pub StationShows : ℕ → List Row → ℕ → ℕ → State → Type 0
 StationShows used rows j v Idle = Unit {0}
 StationShows used rows j v (Reading a) = (a < used) × (getD rows a row0 .station ≡ j) × (getD rows a row0 .written ≡ 0)
 StationShows used rows j v (Writing a) = (a < used) × (getD rows a row0 .station ≡ j) × (0 < getD rows a row0 .written)
@@ -124,11 +134,11 @@ pub record Shows (f : Floor) (l : History) : Type 0 where
 
 -- one event more
 module _ {l : History} (e : Happening) where
-  pub reads-more : {rank : ℕ} {reads : List ReadSlot} {readers : ℕ} → ReadsShow rank reads readers l → ReadsShow rank reads readers (e ∷ l)
+  pub reads-more : {rank : ℕ} {requests : Requests} {answers : List Answer} → ReadsShow rank requests answers l → ReadsShow rank requests answers (e ∷ l)
   reads-more s = record { received = s .received; answered = λ b h. List·Memᴰ·tail (s .answered b h); paired = s .paired }
 
-  pub writes-more : {rank written : ℕ} {writes : List WriteSlot} {writers : ℕ} → ¬ (writerOf e ≡ suc rank)
-      → WritesShow rank written writes writers l → WritesShow rank written writes writers (e ∷ l)
+  pub writes-more : {rank written : ℕ} {requests : Requests} → ¬ (writerOf e ≡ suc rank)
+      → WritesShow rank written requests l → WritesShow rank written requests (e ∷ l)
   writes-more {rank} d s = record {
     received = s .received;
     after-issue = s .after-issue;
@@ -158,7 +168,7 @@ module _ (used k : ℕ) (rows : List Row) (a : ℕ) (w : Row) (j v : ℕ) (up : 
   kept : (i : ℕ) → Kept i (getD (set rows a w) i row0)
   kept = set-all row0 Kept rows a w (λ i h e. (e, refl)) same
 
-  pub station-kept-by : (p : Phase) → StationShows used rows j v p → StationShows k (set rows a w) j v p
+  pub station-kept-by : (p : State) → StationShows used rows j v p → StationShows k (set rows a w) j v p
   station-kept-by Idle s = tt
   station-kept-by (Reading i) s = let o = kept i (s .0) (s .1) in (omega (arith, s .0), o .0, o .1 ∙ s .2)
   station-kept-by (Writing i) s = let o = kept i (s .0) (s .1) in (omega (arith, s .0), o .0, omega (arith, o .1, s .2))

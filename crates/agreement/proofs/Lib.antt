@@ -1,3 +1,7 @@
+-- In layers, each resting on those before it: the history of a run and what it shows of the floor; each kind of step as a step of the
+-- theory; the floors that a list reaches; the run by positions; safety; where stations and boxes stand; a station driven alone; demand 3;
+-- lists worked through; files.
+pub mod Edits
 pub mod History
 pub mod Serves
 pub mod Deliveries
@@ -9,8 +13,7 @@ pub mod Positions
 pub mod Safety
 pub mod Standing
 pub mod Consequences
-pub mod Lists
 pub mod Alone
 pub mod Demand
-pub mod Examples
-pub mod Played
+pub mod Worked
+pub mod Files

@@ -4,29 +4,28 @@ use native.Mathlib.Nat.{eq-or-lt-of-le}
 use native.Mathlib.Decide.{decLt}
 use native.Mathlib.Omega.{arith}
 use mathlib.Core.Path.{_≡_, refl, sym, ap, subst, _∙_}
-use mathlib.Core.Logic.{_⊎_, inl, inr}
+use mathlib.Core.Logic.{inl, inr}
 use mathlib.Core.List.{List, [], _∷_, List·Memᴰ, List·Memᴰ·tail, List·Memᴰ·cases-cons, List·Memᴰ·not-nil}
 use lib.ListN.{getD}
-use Rattle.floor.specs.State.{rowAt}
-use Rattle.floor.specs.Rows.{newRow}
+use Rattle.floor.specs.Floors.{rowAt}
+use Rattle.attempts.specs.Rows.{newRow}
 use Rattle.floor.specs.Step.{stepOf}
-use Rattle.floor.specs.declared.Row.{Row}
+use Rattle.attempts.specs.declared.Row.{Row}
 use Rattle.floor.specs.declared.Floor.{Floor}
 use Rattle.floor.specs.declared.Stepped.{Stepped}
-use Rattle.floor.specs.declared.Command.{Command}
-use Rattle.floor.specs.declared.Outcome.{Outcome}
-use Rattle.floor.specs.declared.Outcome.the-variants as said
-use Rattle.floor.proofs.View.{StepView, turned, began, read-served, write-served, read-heard, issued, write-heard, decided, aborted, stopped, left, step-view}
+use Rattle.commands.specs.declared.Command.{Command}
+use Rattle.commands.specs.declared.Outcome.{Outcome}
+use Rattle.commands.specs.declared.Outcome.the-variants as said
+use Rattle.base.proofs.Cases.{up-to}
+use Rattle.floor.proofs.StepCases.{StepCase, turned, began, served, heard, issued, decided, aborted, stopped, left, step-case}
 use Rattle.floor.proofs.Keeps.{step-lengths, step-sizes}
 use Rattle.floor.proofs.RowLaws.{apply-begun, row-same}
-use Rattle.floor.proofs.Outcomes.{Meaning, step-means}
-use Rattle.agreement.specs.Words.{Before, commandAt, floorAt, saidAt, Attempt, attemptRank, Named}
+use Rattle.floor.specs.Claims.{Meaning}
+use Rattle.floor.proofs.Outcomes.{step-means}
+use Rattle.agreement.specs.Words.{Before, commandAt, Attempt, attemptRank, Named}
+use Rattle.floor.specs.Runs.{floorAt, saidAt}
 use Rattle.agreement.proofs.History.{Happening, History}
 use Rattle.agreement.proofs.Reach.{eventOf, Reached, reached-next, Cause, cause, New, new-reached}
-
--- a number below suc k is k or below k
-pub up-to : {c k : ℕ} → c < suc k → (c ≡ k) ⊎ (c < k)
-up-to h = eq-or-lt-of-le (omega arith)
 
 -- what held before i, and what holds at i, held before suc i
 pub later : {P : ℕ → Type 0} {i : ℕ} → Before P i → Before P (suc i)
@@ -36,25 +35,23 @@ pub now : {P : ℕ → Type 0} (i : ℕ) → P i → Before P (suc i)
 now i p = record { at = i; earlier = omega arith; holds = p }
 
 -- a row that is in use after a step and was not before was begun by it
-begun-then : {f : Floor} {c : Command} {s : Stepped} → StepView f c s → (a : ℕ) → ¬ (a < f .used) → a < s .floor .used → s .outcome ≡ said.Begun a
+begun-then : {f : Floor} {c : Command} {s : Stepped} → StepCase f c s → (a : ℕ) → ¬ (a < f .used) → a < s .floor .used → s .outcome ≡ said.Begun a
 begun-then (turned k t) a h u = absurd (h u)
 begun-then {f} (began z d) a h u = let e : f .used ≡ a = omega arith in ap said.Begun e
-begun-then (read-served z d) a h u = absurd (h u)
-begun-then (write-served z d) a h u = absurd (h u)
-begun-then (read-heard z d q) a h u = absurd (h u)
+begun-then (served z d) a h u = absurd (h u)
+begun-then (heard z d q) a h u = absurd (h u)
 begun-then (issued z d r q) a h u = absurd (h u)
-begun-then (write-heard z d q) a h u = absurd (h u)
 begun-then (decided z d r q t) a h u = absurd (h u)
 begun-then (aborted z d r q t) a h u = absurd (h u)
 begun-then (stopped z d) a h u = absurd (h u)
 begun-then (left z d) a h u = absurd (h u)
 
 module _ (f : Floor) (l : List (List ℕ)) where
-  view-at : (i : ℕ) → StepView (floorAt f l i) (commandAt l i) (stepOf (floorAt f l i) (getD l i []))
-  view-at i = step-view (floorAt f l i) (getD l i [])
+  case-at : (i : ℕ) → StepCase (floorAt f l i) (commandAt l i) (stepOf (floorAt f l i) (getD l i []))
+  case-at i = step-case (floorAt f l i) (getD l i [])
 
   eventAt : ℕ → Happening
-  eventAt i = eventOf (view-at i)
+  eventAt i = eventOf (case-at i)
 
   -- what happened before the step at i
   pub history : ℕ → History
@@ -72,7 +69,7 @@ module _ (f : Floor) (l : List (List ℕ)) where
   caused e i m =
       let x = happened e i m in
       let k = x .at in
-      record { at = k; earlier = x .earlier; holds = subst (Cause (floorAt f l k) (commandAt l k) (saidAt f l k)) (sym (x .holds)) (cause (view-at k)) }
+      record { at = k; earlier = x .earlier; holds = subst (Cause (floorAt f l k) (commandAt l k) (saidAt f l k)) (sym (x .holds)) (cause (case-at k)) }
 
   -- what happened before i happened before every later position
   pub still-happened : {e : Happening} (i t : ℕ) → i ≤ t → List·Memᴰ e (history i) → List·Memᴰ e (history t)
@@ -108,7 +105,7 @@ module _ (f : Floor) (l : List (List ℕ)) where
     unfolding floorAt history eventAt
     reached-at zero = new-reached new
     reached-at (suc i) =
-        reached-next (reached-at i) (view-at i) (step-lengths (floorAt f l i) (getD l i []) (reached-at i .lengths)) (step-sizes (floorAt f l i) (getD l i []) .boxes)
+        reached-next (reached-at i) (case-at i) (step-lengths (floorAt f l i) (getD l i []) (reached-at i .lengths)) (step-sizes (floorAt f l i) (getD l i []) .boxes)
 
     -- what it means that the step at i said o
     pub means-at : (i : ℕ) (o : Outcome) → saidAt f l i ≡ o → Meaning (floorAt f l i) (commandAt l i) (floorAt f l (suc i)) o
@@ -131,7 +128,7 @@ module _ (f : Floor) (l : List (List ℕ)) where
             rank = o .rank ∙ sym (k .rank);
           })
       | no u ↦ (
-          let e = begun-then (view-at i) a u h in
+          let e = begun-then (case-at i) a u h in
           let b = means-at i (said.Begun a) e in
           let r = ap (rowAt (floorAt f l (suc i))) (b .next) ∙ b .row in
           record {

@@ -2,51 +2,49 @@
 use Prim.Native.Nat.{ℕ, _<_}
 use native.Mathlib.Omega.{arith}
 use mathlib.Core.Path.{_≡_, refl, sym, ap, subst}
-use mathlib.Core.Logic.{_⊎_, inl, inr}
 use mathlib.Core.Bool.{Bool, true, false}
 use mathlib.Core.List.{[], _∷_, List·Memᴰ·not-nil}
 use Rattle.base.specs.Numbers.{sizesRight}
 use Rattle.base.proofs.Choices.{by-test}
-use Rattle.register.specs.Register.{rmwWrite}
+use Rattle.register.specs.Register.{rmwWrite, box0}
 use Rattle.register.specs.declared.StorageBox.{StorageBox}
 use Rattle.protocol.specs.Invariant.{Inv}
 use Rattle.protocol.specs.Trace.{read, issued, took, refused, note, other-event, Run, new, next}
-use Rattle.protocol.proofs.Runs.{run-inv}
+use Rattle.protocol.proofs.TraceLaws.{run-inv}
 use Rattle.protocol.proofs.Instances.{equality}
-use Rattle.floor.specs.State.{box0, station0, boxAt, stationAt, rowAt}
-use Rattle.floor.specs.Sound.{Sound, Lengths}
-use Rattle.floor.specs.Floors.{emptyFloor, newFloorOf}
-use Rattle.floor.specs.Rows.{revisionOf}
-use Rattle.floor.specs.Effects.{withState}
-use Rattle.floor.specs.declared.Phase.the-variants as phase
+use Rattle.requests.specs.declared.Phase.{Phase}
+use Rattle.requests.specs.declared.Phase.the-variants.{Read, Write}
+use Rattle.attempts.specs.Stations.{station0, withState}
+use Rattle.floor.specs.Floors.{boxAt, stationAt, rowAt, emptyFloor, newFloorOf}
+use Rattle.floor.specs.Claims.{Sound, Lengths, CanLeave}
+use Rattle.attempts.specs.Rows.{revisionOf}
+use Rattle.attempts.specs.declared.State.the-variants as state
 use Rattle.floor.specs.declared.Floor.{Floor}
 use Rattle.floor.specs.declared.NewFloor.{NewFloor}
 use Rattle.floor.specs.declared.Stepped.{Stepped}
-use Rattle.floor.specs.declared.Command.{Command}
-use Rattle.floor.specs.declared.Command.the-variants.{Begin, ServeRead, ServeWrite}
-use Rattle.floor.specs.declared.Outcome.{Outcome}
-use Rattle.floor.specs.declared.Outcome.the-variants as said
-use Rattle.floor.proofs.Forms.{readHeard, afterStop, afterLeave}
-use Rattle.floor.proofs.View.{CanLeave, StepView, turned, began, read-served, write-served, read-heard, issued, write-heard, decided, aborted, stopped, left}
-use Rattle.floor.proofs.View as view
+use Rattle.commands.specs.declared.Command.{Command}
+use Rattle.commands.specs.declared.Command.the-variants.{Begin, Serve}
+use Rattle.commands.specs.declared.Outcome.{Outcome}
+use Rattle.commands.specs.declared.Outcome.the-variants as said
+use Rattle.floor.specs.Effects.{heardRow, afterStop, afterLeave}
+use Rattle.floor.proofs.StepCases.{StepCase, turned, began, served, heard, issued, decided, aborted, stopped, left}
+use Rattle.floor.proofs.StepCases as cases
 use Rattle.floor.proofs.Keeps.{empty-lengths}
-use Rattle.floor.proofs.Stores.{set-all, getD-same}
-use Rattle.agreement.proofs.History.{offered, quiet, Happening, History, Offered, offered-stays, toBox, boxesOf, stations-stored, last-stored, Shows, shows-kept}
-use Rattle.agreement.proofs.Serves.{StepTo, boxes-paired, readEvent, wroteEvent, writeEvent, serve-read-step, serve-write-step}
-use Rattle.agreement.proofs.Deliveries.{viewOf}
-use Rattle.agreement.proofs.Issues.{read-heard-step, issue-step}
-use Rattle.agreement.proofs.Decisions.{write-heard-step, decision-step, abort-step}
+use Rattle.base.proofs.Stores.{set-all, getD-same}
+use Rattle.agreement.proofs.History.{offered, quiet, Happening, History, Offered, offered-stays, toBox, registersOf, stations-stored, last-stored, Shows, shows-kept}
+use Rattle.agreement.proofs.Serves.{StepTo, boxes-paired, wroteEvent, servedEvent, serve-step}
+use Rattle.agreement.proofs.Deliveries.{viewOf, heard-step}
+use Rattle.agreement.proofs.Issues.{issue-step}
+use Rattle.agreement.proofs.Decisions.{decision-step, abort-step}
 use Rattle.agreement.proofs.Begins.{begin-step}
 
 -- What happens at a step. Only serves, issues and begins leave a trace in the history; every other step, refused ones too, is quiet.
-abbrev pub eventOf : {f : Floor} {c : Command} {s : Stepped} → StepView f c s → Happening
+abbrev pub eventOf : {f : Floor} {c : Command} {s : Stepped} → StepCase f c s → Happening
 eventOf (turned k t) = note quiet
 eventOf (began {v = v} z d) = note (offered v)
-eventOf {f} (read-served {a = a} {b = b} z d) = readEvent f a b
-eventOf {f} (write-served {a = a} {b = b} z d) = writeEvent f a b
-eventOf (read-heard z d q) = note quiet
-eventOf {f} (view.issued {a = a} {b = b} z d r q) = issued (rowAt f a .rank) (revisionOf (readHeard f a b) (f .n))
-eventOf (write-heard z d q) = note quiet
+eventOf {f} (served {p = p} {a = a} {b = b} z d) = servedEvent f p a b
+eventOf (heard z d q) = note quiet
+eventOf {f} (cases.issued {a = a} {b = b} z d r q) = issued (rowAt f a .rank) (revisionOf (heardRow f Read a b) (f .n))
 eventOf (decided z d r q t) = note quiet
 eventOf (aborted z d r q t) = note quiet
 eventOf (stopped z d) = note quiet
@@ -55,7 +53,7 @@ eventOf (left z d) = note quiet
 -- A floor that steps led to, with its history.
 pub record Reached (f : Floor) (l : History) : Type 0 where
   pub lengths : Lengths f
-  pub run : Run (f .n) _≡_ Offered (boxesOf f) l
+  pub run : Run (f .n) _≡_ Offered (registersOf f) l
   pub shows : Shows f l
 
 pub reached-inv : {f : Floor} {l : History} → Reached f l → Inv (f .n) _≡_ (viewOf f l)
@@ -68,36 +66,34 @@ module _ {f : Floor} {l : History} (s : Shows f l) where
 
   stop-step : (b : ℕ) → StepTo f l (afterStop f b) (note quiet)
   stop-step b = record {
-    step = other-event (set-all box0 (λ (j : ℕ) (x : StorageBox). toBox x ≡ boxesOf f j) (f .boxes) b _ (λ j. refl) refl);
+    step = other-event (set-all box0 (λ (j : ℕ) (x : StorageBox). toBox x ≡ registersOf f j) (f .boxes) b _ (λ j. refl) refl);
     shows = shows-kept s (note quiet) _ (f .stations) (boxes-paired s b (record { register = boxAt f b .register; stopped = true }) (s .paired b)) (λ j. refl) refl (s .stations);
   }
 
   leave-step : Lengths f → Sound f → (j : ℕ) → CanLeave f j → StepTo f l (afterLeave f j) (note quiet)
   leave-step y z j d = record {
     step = other-event (λ i. refl);
-    shows = shows-kept s (note quiet) (f .boxes) _ (s .paired) (last-stored (f .stations) j (withState (stationAt f j) phase.Gone) refl) refl
-        (stations-stored (f .used) (f .rows) (f .stations) j (withState (stationAt f j) phase.Gone) (omega (arith, y .stations, d .station, z .station-most))
+    shows = shows-kept s (note quiet) (f .boxes) _ (s .paired) (last-stored (f .stations) j (withState (stationAt f j) state.Gone) refl) refl
+        (stations-stored (f .used) (f .rows) (f .stations) j (withState (stationAt f j) state.Gone) (omega (arith, y .stations, d .station, z .station-most))
         (λ i p. s .stations i) tt);
   }
 
 -- each kind of step
-step-to : {f : Floor} {l : History} {c : Command} {s : Stepped} → Shows f l → Lengths f → (x : StepView f c s) → StepTo f l (s .floor) (eventOf x)
+step-to : {f : Floor} {l : History} {c : Command} {s : Stepped} → Shows f l → Lengths f → (x : StepCase f c s) → StepTo f l (s .floor) (eventOf x)
 step-to w y (turned k t) = refused-step w
 step-to w y (began {s = s} {round = r} {v = v} z d) = begin-step w y z s r v d
-step-to w y (read-served {a = a} {b = b} z d) = serve-read-step w y z a b d
-step-to w y (write-served {a = a} {b = b} z d) = serve-write-step w y z a b d
-step-to w y (read-heard {a = a} {b = b} z d q) = read-heard-step w y z a b d
-step-to w y (view.issued {a = a} {b = b} z d r q) = issue-step w y z a b d r q
-step-to w y (write-heard {a = a} {b = b} z d q) = write-heard-step w y z a b d
+step-to w y (served {p = p} {a = a} {b = b} z d) = serve-step w y z a b p d
+step-to w y (heard {p = p} {a = a} {b = b} z d q) = heard-step w y z p a b d
+step-to w y (cases.issued {a = a} {b = b} z d r q) = issue-step w y z a b d r q
 step-to w y (decided {a = a} {b = b} z d r q t) = decision-step w y z a b d r
 step-to w y (aborted {a = a} {b = b} z d r q t) = abort-step w y z a b d
 step-to w y (stopped {b = b} z d) = stop-step w b
 step-to w y (left {s = s} z d) = leave-step w y z s d
 
-pub reached-next : {f : Floor} {l : History} {c : Command} {s : Stepped} → Reached f l → (x : StepView f c s) → Lengths (s .floor) → s .floor .n ≡ f .n → Reached (s .floor) (eventOf x ∷ l)
+pub reached-next : {f : Floor} {l : History} {c : Command} {s : Stepped} → Reached f l → (x : StepCase f c s) → Lengths (s .floor) → s .floor .n ≡ f .n → Reached (s .floor) (eventOf x ∷ l)
 reached-next {l = l} {s = s} k x y n = let g = step-to (k .shows) (k .lengths) x in record {
   lengths = y;
-  run = subst (λ (i : ℕ). Run i _≡_ Offered (boxesOf (s .floor)) (eventOf x ∷ l)) (sym n) (next (k .run) (g .step));
+  run = subst (λ (i : ℕ). Run i _≡_ Offered (registersOf (s .floor)) (eventOf x ∷ l)) (sym n) (next (k .run) (g .step));
   shows = g .shows;
 }
 
@@ -106,7 +102,8 @@ pub record Serving (f : Floor) (c : Command) (o : Outcome) (r b : ℕ) : Type 0 
   pub attempt : ℕ
   pub used : attempt < f .used
   pub rank : rowAt f attempt .rank ≡ r
-  pub asked : (c ≡ ServeRead attempt b) ⊎ (c ≡ ServeWrite attempt b)
+  pub phase : Phase
+  pub asked : c ≡ Serve phase attempt b
   pub accepted : o ≡ said.Served attempt
 
 pub record Offering (c : Command) (o : Outcome) (v : ℕ) : Type 0 where
@@ -124,18 +121,20 @@ Cause f c o (refused r b) = Unit {0}
 Cause f c o (note (offered v)) = Offering c o v
 Cause f c o (note quiet) = Unit {0}
 
-write-cause : (f : Floor) (a b : ℕ) → a < f .used → (t : Bool) → Cause f (ServeWrite a b) (said.Served a) (wroteEvent t (rowAt f a .rank) b)
-write-cause f a b h true = record { attempt = a; used = h; rank = refl; asked = inr refl; accepted = refl }
+write-cause : (f : Floor) (a b : ℕ) → a < f .used → (t : Bool) → Cause f (Serve Write a b) (said.Served a) (wroteEvent t (rowAt f a .rank) b)
+write-cause f a b h true = record { attempt = a; used = h; rank = refl; phase = Write; asked = refl; accepted = refl }
 write-cause f a b h false = tt
 
-pub cause : {f : Floor} {c : Command} {s : Stepped} → (x : StepView f c s) → Cause f c (s .outcome) (eventOf x)
+serve-cause : (f : Floor) (p : Phase) (a b : ℕ) → a < f .used → Cause f (Serve p a b) (said.Served a) (servedEvent f p a b)
+serve-cause f Read a b h = record { attempt = a; used = h; rank = refl; phase = Read; asked = refl; accepted = refl }
+serve-cause f Write a b h = write-cause f a b h (rmwWrite (boxAt f b .register) (rowAt f a .rank) (rowAt f a .written) .taken)
+
+pub cause : {f : Floor} {c : Command} {s : Stepped} → (x : StepCase f c s) → Cause f c (s .outcome) (eventOf x)
 cause (turned k t) = tt
 cause (began {s = s} {round = r} {v = v} z d) = record { station = s; round = r; number = _; asked = refl; accepted = refl }
-cause (read-served {a = a} {b = b} z d) = record { attempt = a; used = d .used; rank = refl; asked = inl refl; accepted = refl }
-cause {f} (write-served {a = a} {b = b} z d) = write-cause f a b (d .used) (rmwWrite (boxAt f b .register) (rowAt f a .rank) (rowAt f a .written) .taken)
-cause (read-heard z d q) = tt
-cause (view.issued z d r q) = tt
-cause (write-heard z d q) = tt
+cause {f} (served {p = p} {a = a} {b = b} z d) = serve-cause f p a b (d .used)
+cause (heard z d q) = tt
+cause (cases.issued z d r q) = tt
 cause (decided z d r q t) = tt
 cause (aborted z d r q t) = tt
 cause (stopped z d) = tt

@@ -3,29 +3,32 @@ use Prim.Native.Nat.{ℕ, zero, suc, _+_, _≤_, _<_}
 use native.Mathlib.Decide.{decLt}
 use native.Mathlib.Omega.{arith}
 use mathlib.Core.Path.{_≡_, refl, sym, ap, subst, _∙_}
-use mathlib.Core.Logic.{_⊎_, inl, inr}
+use mathlib.Core.Logic.{inl, inr}
 use mathlib.Core.List.{List, List·Memᴰ}
-use Rattle.protocol.specs.Quorum.{Majority}
+use Rattle.base.specs.Quorum.{Majority}
 use Rattle.protocol.specs.View.{Chosen}
 use Rattle.protocol.specs.Trace.{read, took, note, Served, by-read, by-write}
-use Rattle.protocol.proofs.QuorumLaws.{majority-map}
-use Rattle.protocol.proofs.Runs.{outranked}
+use Rattle.base.proofs.QuorumLaws.{majority-map}
+use Rattle.protocol.proofs.TraceLaws.{outranked}
 use Rattle.protocol.proofs.Instances.{consensus}
-use Rattle.floor.specs.State.{stationAt, rowAt}
+use Rattle.requests.specs.declared.Phase.the-variants.{Write}
+use Rattle.floor.specs.Floors.{stationAt, rowAt}
 use Rattle.floor.specs.Step.{stepOf}
-use Rattle.floor.specs.declared.Phase.the-variants.{Decided}
-use Rattle.floor.specs.declared.Station.{Station}
+use Rattle.attempts.specs.declared.State.the-variants.{Decided}
+use Rattle.attempts.specs.declared.Station.{Station}
 use Rattle.floor.specs.declared.Floor.{Floor}
-use Rattle.floor.specs.declared.Command.the-variants.{ServeRead, ServeWrite, DeliverWrite}
-use Rattle.floor.specs.declared.Outcome.the-variants as said
+use Rattle.commands.specs.declared.Command.the-variants.{Serve, Deliver}
+use Rattle.commands.specs.declared.Outcome.the-variants as said
 use Rattle.floor.proofs.StationLaws.{decided-from}
-use Rattle.agreement.specs.Words.{Before, commandAt, floorAt, saidAt, Attempt, Named, OfferedAt, ServedAt, DecidesAt, OutrankedAt, shownAt}
+use Rattle.agreement.specs.Words.{Before, commandAt, Attempt, Named, OfferedAt, ServedAt, DecidesAt, OutrankedAt, shownAt}
+use Rattle.floor.specs.Runs.{floorAt, saidAt}
 use Rattle.agreement.specs.Demand.{firstFloor, Safety}
 use Rattle.agreement.proofs.History.{offered, Offered}
 use Rattle.agreement.proofs.Deliveries.{viewOf, owner-writes}
 use Rattle.agreement.proofs.Decisions.{decision-chosen, abort-refused}
 use Rattle.agreement.proofs.Reach.{reached-inv, Serving, New, new-floor}
-use Rattle.agreement.proofs.Positions.{up-to, later, now, history, caused, still-happened, size-at, reached-at, means-at, row-at}
+use Rattle.base.proofs.Cases.{up-to}
+use Rattle.agreement.proofs.Positions.{later, now, history, caused, still-happened, size-at, reached-at, means-at, row-at}
 
 module _ (f : Floor) (l : List (List ℕ)) where
   -- one number names one attempt
@@ -71,7 +74,7 @@ module _ (f : Floor) (l : List (List ℕ)) where
 
     validity : (i v : ℕ) → saidAt f l i ≡ said.Decided v → Before (OfferedAt f l v) i
     validity i v e =
-        let o = reached-inv (reached-at f l new i) .offered _ v (chosen-at i v e .1 .issued) in
+        let o = reached-inv (reached-at f l new i) .sound .offered _ v (chosen-at i v e .1 .issued) in
         let x = caused f l (note (offered v)) i o in
         let y = x .holds in
         record {
@@ -89,7 +92,8 @@ module _ (f : Floor) (l : List (List ℕ)) where
       attempt = o .attempt;
       named = o .named;
       rank = o .rank ∙ x .rank;
-      asked = subst (λ (a : ℕ). (commandAt l k ≡ ServeRead a b) ⊎ (commandAt l k ≡ ServeWrite a b)) (sym (o .number)) (x .asked);
+      phase = x .phase;
+      asked = x .asked ∙ ap (λ (a : ℕ). Serve (x .phase) a b) (sym (o .number));
       accepted = x .accepted ∙ ap said.Served (sym (o .number));
     }
 
@@ -111,7 +115,7 @@ module _ (f : Floor) (l : List (List ℕ)) where
           aborts = record {
             named = o .named;
             box = m .box;
-            asked = m .answer .command ∙ ap (λ (x : ℕ). DeliverWrite x (m .box)) (sym (o .number));
+            asked = m .answer .command ∙ ap (λ (x : ℕ). Deliver Write x (m .box)) (sym (o .number));
             accepted = e ∙ ap said.Aborted (sym (o .number));
           };
           rank = y .rank;
@@ -121,14 +125,14 @@ module _ (f : Floor) (l : List (List ℕ)) where
         }
 
     -- the delivery that says decided, of an attempt whose row is the station's
-    pub decides-at : (k s v a b : ℕ) → commandAt l k ≡ DeliverWrite a b → a < floorAt f l k .used → rowAt (floorAt f l k) a .station ≡ s → saidAt f l k ≡ said.Decided v
+    pub decides-at : (k s v a b : ℕ) → commandAt l k ≡ Deliver Write a b → a < floorAt f l k .used → rowAt (floorAt f l k) a .station ≡ s → saidAt f l k ≡ said.Decided v
         → DecidesAt f l s v k
     decides-at k s v a b c u q e = let o = row-at f l new k a u in record {
       attempt = o .attempt;
       named = o .named;
       station = o .station ∙ q;
       box = b;
-      asked = c ∙ ap (λ (x : ℕ). DeliverWrite x b) (sym (o .number));
+      asked = c ∙ ap (λ (x : ℕ). Deliver Write x b) (sym (o .number));
       accepted = e;
     }
 

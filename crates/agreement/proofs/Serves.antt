@@ -7,36 +7,41 @@ use mathlib.Core.Logic.{_⊎_, inl, inr}
 use mathlib.Core.Bool.{Bool, true, false}
 use mathlib.Core.List.{_∷_, List·Memᴰ, List·Memᴰ·head, List·Memᴰ·tail, List·Memᴰ·cases-cons}
 use lib.ListN.{getD, set}
+use lib.Seq.{getD-set-same}
 use Rattle.base.proofs.Choices.{by-test}
-use Rattle.register.specs.Register.{rmwRead, takes, rmwWrite}
+use Rattle.register.specs.Register.{rmwRead, takes, rmwWrite, box0, withRegister}
 use Rattle.register.specs.declared.Register.{Register}
 use Rattle.register.specs.declared.StorageBox.{StorageBox}
 use Rattle.register.specs.declared.WriteDone.{WriteDone}
 use Rattle.register.proofs.RegisterLaws.{takes-means, takes-not}
-use Rattle.protocol.specs.Mask.{bit}
 use Rattle.protocol.specs.Trace.{Box, readBox, writeBox, read, took, refused, Edit, there, other, Step, serve-read, take, refuse}
-use Rattle.floor.specs.State.{box0, readSlot0, writeSlot0, boxAt, stationAt, rowAt, writeAt}
-use Rattle.floor.specs.Sound.{Sound, Lengths}
-use Rattle.floor.specs.Effects.{withRegister, withWrites, rowServedRead}
-use Rattle.floor.specs.declared.Stage.the-variants.{Answered}
-use Rattle.floor.specs.declared.ReadSlot.{ReadSlot}
-use Rattle.floor.specs.declared.WriteSlot.{WriteSlot}
-use Rattle.floor.specs.declared.Row.{Row}
+use Rattle.requests.specs.Requests.{ofPhase, slot0, slotAt, heardFrom, servedAt}
+use Rattle.requests.specs.declared.Phase.{Phase}
+use Rattle.requests.specs.declared.Phase.the-variants.{Read, Write}
+use Rattle.requests.specs.declared.Slot.{Slot}
+use Rattle.requests.specs.declared.Requests.{Requests}
+use Rattle.attempts.specs.Rows.{answer0, withRequests, answerOf, rowServed}
+use Rattle.floor.specs.Floors.{boxAt, stationAt, rowAt, withBox, withRow}
+use Rattle.floor.specs.Claims.{Sound, Lengths, CanServe}
+use Rattle.requests.specs.declared.Stage.the-variants.{Answered}
+use Rattle.attempts.specs.declared.Answer.{Answer}
+use Rattle.attempts.specs.declared.Row.{Row}
 use Rattle.floor.specs.declared.Floor.{Floor}
-use Rattle.floor.proofs.Standings.{clash, waits-means}
-use Rattle.floor.proofs.Forms.{withBox, withRow, afterServeRead, afterServeWrite}
-use Rattle.floor.proofs.View.{CanServe}
-use Rattle.floor.proofs.Stores.{set-all, set-in, edit-set}
-use Rattle.agreement.proofs.History.{Happening, History, Offered, toBox, boxesOf, writerOf, isAnswered, isIssued, Paired, RowShows, StationShows, station-kept-by, Shows, reads-more, writes-more, shows-stored}
+use Rattle.base.proofs.Cases.{clash}
+use Rattle.requests.proofs.Standings.{waits-means}
+use Rattle.floor.specs.Effects.{afterServe}
+use Rattle.base.proofs.Stores.{set-all, set-in}
+use Rattle.agreement.proofs.Edits.{edit-set}
+use Rattle.agreement.proofs.History.{Happening, History, Offered, toBox, registersOf, writerOf, isAnswered, isIssued, Paired, RowShows, StationShows, station-kept-by, Shows, reads-more, writes-more, shows-stored}
 
 -- From the floor f with the history l to the floor g with the event e.
 pub record StepTo (f : Floor) (l : History) (g : Floor) (e : Happening) : Type 0 where
-  pub step : Step (f .n) _≡_ Offered (boxesOf f) l (boxesOf g) e
+  pub step : Step (f .n) _≡_ Offered (registersOf f) l (registersOf g) e
   pub shows : Shows g (e ∷ l)
 
 -- a box is stored, as the theory sees it
 box-edit : (f : Floor) (b : ℕ) (x : StorageBox) → b < 9 → Lengths f → (g : Box ℕ → Box ℕ) → toBox x ≡ g (toBox (boxAt f b)) → (j : ℕ)
-    → Edit (boxesOf f) (λ k. toBox (getD (set (f .boxes) b x) k box0)) b g j
+    → Edit (registersOf f) (λ k. toBox (getD (set (f .boxes) b x) k box0)) b g j
 box-edit f b x h y g e j = elim (edit-set box0 (f .boxes) b x (omega (arith, y .boxes)) j) [
   | there p q ↦ there p (ap toBox q ∙ e ∙ ap (λ (k : ℕ). g (toBox (boxAt f k))) (sym p))
   | other p q ↦ other p (ap toBox q)
@@ -63,6 +68,9 @@ wroteEvent false r b = refused r b
 abbrev pub writeEvent : Floor → ℕ → ℕ → Happening
 writeEvent f a b = wroteEvent (rmwWrite (boxAt f b .register) (rowAt f a .rank) (rowAt f a .written) .taken) (rowAt f a .rank) b
 
+abbrev pub servedEvent : Floor → Phase → ℕ → ℕ → Happening
+servedEvent f p a b = ofPhase p (readEvent f a b) (writeEvent f a b)
+
 -- the write's own rank alone is written at
 wrote-own : (t : Bool) (r b k : ℕ) → writerOf (wroteEvent t r b) ≡ suc k → k ≡ r
 wrote-own true r b k q = omega arith
@@ -82,8 +90,27 @@ unfolding rmwWrite
 write-view x r v = by-test (Written x r v) (takes x r) _ _ (λ e. let p = takes-means x r e in stored (p .0) (p .1)) (λ e. kept (takes-not x r e))
 
 module _ {f : Floor} {l : History} (s : Shows f l) (y : Lengths f) (z : Sound f) (a b : ℕ) where
-  module _ (d : CanServe f false a b) where
-    read-row : RowShows (rowServedRead (rowAt f a) (boxAt f b .register) b) (readEvent f a b ∷ l)
+  module _ (d : CanServe f Read a b) where
+    abbrev answer : Answer
+    answer = answerOf (rmwRead (boxAt f b .register) (rowAt f a .rank))
+
+    abbrev ReadAt : ℕ → Answer → Type 0
+    ReadAt j x = List·Memᴰ (read (rowAt f a .rank) j (x .rank) (x .value)) (readEvent f a b ∷ l)
+
+    -- the answer of box b is new, the others were given before
+    answer-now : ReadAt b (getD (set (rowAt f a .answers) b answer) b answer0)
+    unfolding rmwRead
+    answer-now =
+        rw (getD-set-same (rowAt f a .answers) b answer answer0 (omega (arith, y .answers a (omega (arith, d .used, z .rows-most)), d .box, z .box-most)))
+        (List·Memᴰ·head refl)
+
+    answer-before : (j : ℕ) → isAnswered (slotAt (rowAt f a .read) j .stage) ≡ true → ReadAt j (getD (set (rowAt f a .answers) b answer) j answer0)
+    unfolding rmwRead
+    answer-before =
+        set-all answer0 (λ (j : ℕ) (x : Answer). isAnswered (slotAt (rowAt f a .read) j .stage) ≡ true → ReadAt j x) (rowAt f a .answers) b answer
+        (λ j h. List·Memᴰ·tail (s .rows a (d .used) .reads .answered j h)) (λ _. List·Memᴰ·head refl)
+
+    read-row : RowShows (rowServed Read (rowAt f a) (boxAt f b .register) b) (readEvent f a b ∷ l)
     unfolding rmwRead
     read-row = let r = s .rows a (d .used) in record {
       positive = r .positive;
@@ -91,37 +118,40 @@ module _ {f : Floor} {l : History} (s : Shows f l) (y : Lengths f) (z : Sound f)
       revision = r .revision;
       offer = List·Memᴰ·tail (r .offer);
       reads = record {
-        received = set-all readSlot0 (λ (j : ℕ) (x : ReadSlot). bit (rowAt f a .readers) j ≡ true → isAnswered (x .stage) ≡ true) (rowAt f a .reads) b _
+        received = set-all slot0 (λ (j : ℕ) (x : Slot). heardFrom (rowAt f a .read) j ≡ true → isAnswered (x .stage) ≡ true) (rowAt f a .read .slots) b _
             (r .reads .received) (λ _. refl);
-        answered = set-all readSlot0 (λ (j : ℕ) (x : ReadSlot). isAnswered (x .stage) ≡ true → List·Memᴰ (read (rowAt f a .rank) j (x .rank) (x .value)) (readEvent f a b ∷ l)) (rowAt f a .reads) b _
-            (λ j h. List·Memᴰ·tail (r .reads .answered j h)) (λ _. List·Memᴰ·head refl);
-        paired = set-all readSlot0 (λ (j : ℕ) (x : ReadSlot). Paired (x .rank) (x .value)) (rowAt f a .reads) b _ (r .reads .paired) (s .paired b);
+        answered = set-all slot0 (λ (j : ℕ) (x : Slot). isAnswered (x .stage) ≡ true → ReadAt j (getD (set (rowAt f a .answers) b answer) j answer0)) (rowAt f a .read .slots) b _
+            answer-before (λ _. answer-now);
+        paired = set-all answer0 (λ (j : ℕ) (x : Answer). Paired (x .rank) (x .value)) (rowAt f a .answers) b _ (r .reads .paired) (s .paired b);
       };
       writes = writes-more (readEvent f a b) (λ q. omega arith) (r .writes);
     }
 
-    pub serve-read-step : StepTo f l (afterServeRead f a b) (readEvent f a b)
+    read-step : StepTo f l (afterServe f Read a b) (readEvent f a b)
     unfolding rmwRead
-    serve-read-step = record {
+    read-step = record {
       step = serve-read (box-edit f b _ (omega (arith, d .box, z .box-most)) y (readBox (rowAt f a .rank)) refl) refl refl;
       shows = shows-stored s (readEvent f a b) _ (f .stations) (boxes-paired s b _ (s .paired b)) (λ j. refl)
           y a (d .used) (z .rows-most) _ refl (λ r q. absurd (omega arith)) read-row (stations-kept s a _ refl refl);
     }
 
-  module _ (d : CanServe f true a b) where
+  module _ (d : CanServe f Write a b) where
     abbrev rank : ℕ
     rank = rowAt f a .rank
 
+    abbrev requests : Requests
+    requests = rowAt f a .write
+
     issued-then : 0 < rowAt f a .written
-    issued-then = s .rows a (d .used) .writes .after-issue b (ap isIssued (waits-means (writeAt (rowAt f a) b .stage) (rowAt f a .writers) b (d .waits) .0))
+    issued-then = s .rows a (d .used) .writes .after-issue b (ap isIssued (waits-means (slotAt requests b .stage) (requests .heard) b (d .waits) .0))
 
-    not-answered : isAnswered (writeAt (rowAt f a) b .stage) ≡ false
-    not-answered = ap isAnswered (waits-means (writeAt (rowAt f a) b .stage) (rowAt f a .writers) b (d .waits) .0)
+    not-answered : isAnswered (slotAt requests b .stage) ≡ false
+    not-answered = ap isAnswered (waits-means (slotAt requests b .stage) (requests .heard) b (d .waits) .0)
 
-    abbrev slot : Bool → WriteSlot
-    slot t = record { stage = Answered; taken = t }
+    abbrev slot : Bool → Slot
+    slot t = record { stage = Answered; ok = t }
 
-    write-row : (t : Bool) → RowShows (withWrites (rowAt f a) (set (rowAt f a .writes) b (slot t))) (wroteEvent t rank b ∷ l)
+    write-row : (t : Bool) → RowShows (withRequests Write (rowAt f a) (servedAt requests b t)) (wroteEvent t rank b ∷ l)
     write-row t = let r = s .rows a (d .used) in record {
       positive = r .positive;
       place = r .place;
@@ -129,17 +159,17 @@ module _ {f : Floor} {l : History} (s : Shows f l) (y : Lengths f) (z : Sound f)
       offer = List·Memᴰ·tail (r .offer);
       reads = reads-more (wroteEvent t rank b) (r .reads);
       writes = record {
-        received = set-all writeSlot0 (λ (j : ℕ) (x : WriteSlot). bit (rowAt f a .writers) j ≡ true → isAnswered (x .stage) ≡ true) (rowAt f a .writes) b (slot t)
+        received = set-all slot0 (λ (j : ℕ) (x : Slot). heardFrom requests j ≡ true → isAnswered (x .stage) ≡ true) (requests .slots) b (slot t)
             (r .writes .received) (λ _. refl);
         after-issue = λ _ _. issued-then;
         issue = λ h. List·Memᴰ·tail (r .writes .issue h);
         unwritten = λ h. absurd (omega (arith, issued-then));
-        taken = set-all writeSlot0 (λ (j : ℕ) (x : WriteSlot). isAnswered (x .stage) ≡ true → x .taken ≡ true → List·Memᴰ (took rank j) (wroteEvent t rank b ∷ l)) (rowAt f a .writes) b (slot t)
+        taken = set-all slot0 (λ (j : ℕ) (x : Slot). isAnswered (x .stage) ≡ true → x .ok ≡ true → List·Memᴰ (took rank j) (wroteEvent t rank b ∷ l)) (requests .slots) b (slot t)
             (λ j h e. List·Memᴰ·tail (r .writes .taken j h e)) (λ _ e. List·Memᴰ·head (ap (λ (x : Bool). wroteEvent x rank b) (sym e)));
-        refusal = set-all writeSlot0 (λ (j : ℕ) (x : WriteSlot). isAnswered (x .stage) ≡ true → x .taken ≡ false → List·Memᴰ (refused rank j) (wroteEvent t rank b ∷ l)) (rowAt f a .writes) b (slot t)
+        refusal = set-all slot0 (λ (j : ℕ) (x : Slot). isAnswered (x .stage) ≡ true → x .ok ≡ false → List·Memᴰ (refused rank j) (wroteEvent t rank b ∷ l)) (requests .slots) b (slot t)
             (λ j h e. List·Memᴰ·tail (r .writes .refusal j h e)) (λ _ e. List·Memᴰ·head (ap (λ (x : Bool). wroteEvent x rank b) (sym e)));
-        only = set-in writeSlot0 (λ (j : ℕ) (x : WriteSlot). List·Memᴰ (took rank j) (wroteEvent t rank b ∷ l) → (isAnswered (x .stage) ≡ true) × (x .taken ≡ true)) (rowAt f a .writes) b (slot t)
-            (omega (arith, y .writes a (omega (arith, d .used, z .rows-most)), d .box, z .box-most))
+        only = set-in slot0 (λ (j : ℕ) (x : Slot). List·Memᴰ (took rank j) (wroteEvent t rank b ∷ l) → (isAnswered (x .stage) ≡ true) × (x .ok ≡ true)) (requests .slots) b (slot t)
+            (omega (arith, y .slots Write a (omega (arith, d .used, z .rows-most)), d .box, z .box-most))
             (λ j p m. elim (List·Memᴰ·cases-cons m) [ inl q ↦ absurd (p (wrote-head t rank b j q .0)) | inr o ↦ r .writes .only j o ])
             (λ m. elim (List·Memᴰ·cases-cons m) [ inl q ↦ (refl, wrote-head t rank b b q .1) | inr o ↦ clash (r .writes .only b o .0) not-answered ]);
       };
@@ -147,7 +177,7 @@ module _ {f : Floor} {l : History} (s : Shows f l) (y : Lengths f) (z : Sound f)
 
     -- the floor after the write was served, by what the register did
     abbrev served : WriteDone → Floor
-    served w = withRow (withBox f b (withRegister (boxAt f b) (w .register))) a (withWrites (rowAt f a) (set (rowAt f a .writes) b (slot (w .taken))))
+    served w = withRow (withBox f b (withRegister (boxAt f b) (w .register))) a (withRequests Write (rowAt f a) (servedAt requests b (w .taken)))
 
     served-shows : (w : WriteDone) → Paired (w .register .write) (w .register .value) → Shows (served w) (wroteEvent (w .taken) rank b ∷ l)
     served-shows w p =
@@ -160,9 +190,13 @@ module _ {f : Floor} {l : History} (s : Shows f l) (y : Lengths f) (z : Sound f)
       shows = served-shows _ (λ e. absurd (omega (arith, s .rows a (d .used) .positive)), λ _. issued-then);
     }
     serve-write (kept h) = record {
-      step = refuse (set-all box0 (λ (j : ℕ) (x : StorageBox). toBox x ≡ boxesOf f j) (f .boxes) b (boxAt f b) (λ j. refl) refl) h;
+      step = refuse (set-all box0 (λ (j : ℕ) (x : StorageBox). toBox x ≡ registersOf f j) (f .boxes) b (boxAt f b) (λ j. refl) refl) h;
       shows = served-shows (record { register = boxAt f b .register; taken = false }) (s .paired b);
     }
 
-    pub serve-write-step : StepTo f l (afterServeWrite f a b) (writeEvent f a b)
-    serve-write-step = serve-write (write-view (boxAt f b .register) rank (rowAt f a .written))
+    write-step : StepTo f l (afterServe f Write a b) (writeEvent f a b)
+    write-step = serve-write (write-view (boxAt f b .register) rank (rowAt f a .written))
+
+  pub serve-step : (p : Phase) → CanServe f p a b → StepTo f l (afterServe f p a b) (servedEvent f p a b)
+  serve-step Read d = read-step d
+  serve-step Write d = write-step d

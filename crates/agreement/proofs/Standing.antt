@@ -10,43 +10,35 @@ use lib.ListN.{getD}
 use borrow.Author.Tests.{eqb-true, eq-eqb}
 use Rattle.base.specs.Numbers.{rankOf}
 use Rattle.register.specs.declared.StorageBox.{StorageBox}
-use Rattle.protocol.specs.Quorum.{indicator, count}
-use Rattle.floor.specs.State.{boxAt, stationAt, rowAt, isGone}
-use Rattle.floor.specs.Sound.{Sound}
+use Rattle.base.specs.Quorum.{indicator, count}
+use Rattle.floor.specs.Floors.{boxAt, stationAt, rowAt}
+use Rattle.attempts.specs.Stations.{isGone}
+use Rattle.floor.specs.Claims.{Sound}
 use Rattle.floor.specs.Step.{stepOf}
-use Rattle.floor.specs.declared.Phase.{Phase}
-use Rattle.floor.specs.declared.Phase.the-variants.{Idle, Reading, Writing, Decided, Gone}
-use Rattle.floor.specs.declared.Station.{Station}
+use Rattle.attempts.specs.declared.State.{State}
+use Rattle.attempts.specs.declared.State.the-variants.{Idle, Reading, Writing, Decided, Gone}
+use Rattle.attempts.specs.declared.Station.{Station}
 use Rattle.floor.specs.declared.Floor.{Floor}
-use Rattle.floor.specs.declared.Outcome.{Outcome}
-use Rattle.floor.specs.declared.Outcome.the-variants as said
-use Rattle.floor.proofs.Standings.{clash}
+use Rattle.commands.specs.declared.Outcome.{Outcome}
+use Rattle.commands.specs.declared.Outcome.the-variants as said
+use Rattle.base.proofs.Cases.{clash, up-to}
 use Rattle.floor.proofs.Keeps.{step-keeps, step-sizes}
-use Rattle.floor.proofs.RowLaws.{begins, apply-used}
+use Rattle.floor.proofs.RowLaws.{apply-used}
 use Rattle.floor.proofs.BoxLaws.{stopped-stays, stopped-from}
-use Rattle.floor.proofs.StationLaws.{isIn, gone-from, active-from}
-use Rattle.agreement.specs.Words.{Before, commandAt, isBegun, floorAt, saidAt, Attempt, Named, AbortsAt, IdleAt, attemptsBefore, RoundLeft}
+use Rattle.floor.proofs.StationLaws.{isActive, gone-from, active-from}
+use Rattle.agreement.specs.Words.{Before, commandAt, Attempt, Named, AbortsAt, IdleAt, attemptsBefore, RoundLeft}
+use Rattle.commands.specs.Outcomes.{isBegun}
+use Rattle.floor.specs.Runs.{floorAt, saidAt}
 use Rattle.agreement.proofs.History.{History, StationShows, Shows}
 use Rattle.agreement.proofs.Reach.{New}
-use Rattle.agreement.proofs.Positions.{up-to, later, now, reached-at, means-at, row-at}
+use Rattle.agreement.proofs.Positions.{later, now, reached-at, means-at, row-at}
 use Rattle.agreement.proofs.Safety.{shown-decided}
 
-begins-one : (o : Outcome) → begins o ≡ indicator (isBegun o)
-begins-one (said.Begun a) = refl
-begins-one (said.Served a) = refl
-begins-one (said.Received a) = refl
-begins-one (said.Aborted a) = refl
-begins-one (said.WriteIssued v) = refl
-begins-one (said.Decided v) = refl
-begins-one (said.Stopped b) = refl
-begins-one (said.Gone s) = refl
-begins-one (said.Refused k) = refl
-
 -- a station that reads or writes is in a row of its own
-own-row : {f : Floor} {l : History} → Shows f l → (j a : ℕ) → isIn (stationAt f j .state) a ≡ true → (a < f .used) × (rowAt f a .station ≡ j)
+own-row : {f : Floor} {l : History} → Shows f l → (j a : ℕ) → isActive (stationAt f j .state) a ≡ true → (a < f .used) × (rowAt f a .station ≡ j)
 own-row {f} s j a = go (stationAt f j .state) (s .stations j)
   where
-    go : (p : Phase) → StationShows (f .used) (f .rows) j (stationAt f j .decided) p → isIn p a ≡ true → (a < f .used) × (rowAt f a .station ≡ j)
+    go : (p : State) → StationShows (f .used) (f .rows) j (stationAt f j .decided) p → isActive p a ≡ true → (a < f .used) × (rowAt f a .station ≡ j)
     go Idle q e = clash e refl
     go (Reading x) q e = subst (λ (k : ℕ). (k < f .used) × (rowAt f k .station ≡ j)) (eqb-true x a e) (q .0, q .1)
     go (Writing x) q e = subst (λ (k : ℕ). (k < f .used) × (rowAt f k .station ≡ j)) (eqb-true x a e) (q .0, q .1)
@@ -69,7 +61,7 @@ module _ (f : Floor) (l : List (List ℕ)) (new : New f) where
   pub used-at : (i : ℕ) → floorAt f l i .used ≡ attemptsBefore f l i
   unfolding floorAt stepOf count
   used-at zero = new .unused
-  used-at (suc i) = omega (arith, apply-used (floorAt f l i) (commandAt l i), begins-one (saidAt f l i), used-at i)
+  used-at (suc i) = omega (arith, apply-used (floorAt f l i) (commandAt l i), used-at i)
 
   -- a box is stopped exactly where an accepted step stopped it
   pub stopped-before : (b i : ℕ) → boxAt (floorAt f l i) b .stopped ≡ true → Before (λ k. saidAt f l k ≡ said.Stopped b) i
@@ -95,21 +87,21 @@ module _ (f : Floor) (l : List (List ℕ)) (new : New f) where
   gone-before s (suc i) e = elim (gone-from (floorAt f l i) (commandAt l i) s e) [ inl o ↦ later (gone-before s i o) | inr o ↦ now i o ]
 
   -- a station that is in an attempt after the step at i was in it before, and the step did not abort it; or the step began it
-  still-in : (j a i : ℕ) → isIn (stationAt (floorAt f l (suc i)) j .state) a ≡ true
-      → ((isIn (stationAt (floorAt f l i) j .state) a ≡ true) × (¬ (saidAt f l i ≡ said.Aborted a))) ⊎ (saidAt f l i ≡ said.Begun a)
+  still-in : (j a i : ℕ) → isActive (stationAt (floorAt f l (suc i)) j .state) a ≡ true
+      → ((isActive (stationAt (floorAt f l i) j .state) a ≡ true) × (¬ (saidAt f l i ≡ said.Aborted a))) ⊎ (saidAt f l i ≡ said.Begun a)
   unfolding floorAt stepOf
   still-in j a i e = elim (active-from (floorAt f l i) (commandAt l i) j a e) [
     | inl o ↦ inl (
       o,
       λ q.
           let own = own-row (reached-at f l new i .shows) j a o .1 in
-          clash e (ap (λ (k : ℕ). isIn (stationAt (floorAt f l (suc i)) k .state) a) (sym own) ∙ ap (λ (x : Station). isIn (x .state) a) (means-at f l new i (said.Aborted a) q .owner)),
+          clash e (ap (λ (k : ℕ). isActive (stationAt (floorAt f l (suc i)) k .state) a) (sym own) ∙ ap (λ (x : Station). isActive (x .state) a) (means-at f l new i (said.Aborted a) q .owner)),
     )
     | inr o ↦ inr o
   ]
 
   -- an attempt that its station is in has not aborted
-  not-aborted : (j i k : ℕ) (x : Attempt f l) → isIn (stationAt (floorAt f l i) j .state) (x .number) ≡ true → Named f l x i → k < i → ¬ AbortsAt f l x k
+  not-aborted : (j i k : ℕ) (x : Attempt f l) → isActive (stationAt (floorAt f l i) j .state) (x .number) ≡ true → Named f l x i → k < i → ¬ AbortsAt f l x k
   not-aborted j zero k x e n h b = omega arith
   not-aborted j (suc i) k x e n h b = elim (still-in j (x .number) i e) [
     | inl o ↦ elim (up-to h) [
@@ -121,17 +113,17 @@ module _ (f : Floor) (l : List (List ℕ)) (new : New f) where
 
   -- a station that is idle in the words of the list is idle on the floor
   module _ (s i : ℕ) (idle : IdleAt f l s i) where
-    in-none : (a : ℕ) → ¬ (isIn (stationAt (floorAt f l i) s .state) a ≡ true)
+    in-none : (a : ℕ) → ¬ (isActive (stationAt (floorAt f l i) s .state) a ≡ true)
     in-none a e =
         let own = own-row (reached-at f l new i .shows) s a e in
         let o = row-at f l new i a (own .0) in
         let b = idle .aborted (o .attempt) (o .named .earlier) (o .station ∙ own .1) in
-        not-aborted s i (b .at) (o .attempt) (ap (isIn (stationAt (floorAt f l i) s .state)) (o .number) ∙ e) (o .named) (b .earlier) (b .holds)
+        not-aborted s i (b .at) (o .attempt) (ap (isActive (stationAt (floorAt f l i) s .state)) (o .number) ∙ e) (o .named) (b .earlier) (b .holds)
 
-    idle-as : (p : Phase) → stationAt (floorAt f l i) s .state ≡ p → p ≡ Idle
+    idle-as : (p : State) → stationAt (floorAt f l i) s .state ≡ p → p ≡ Idle
     idle-as Idle e = refl
-    idle-as (Reading a) e = absurd (in-none a (ap (λ (p : Phase). isIn p a) e ∙ eq-eqb a a refl))
-    idle-as (Writing a) e = absurd (in-none a (ap (λ (p : Phase). isIn p a) e ∙ eq-eqb a a refl))
+    idle-as (Reading a) e = absurd (in-none a (ap (λ (p : State). isActive p a) e ∙ eq-eqb a a refl))
+    idle-as (Writing a) e = absurd (in-none a (ap (λ (p : State). isActive p a) e ∙ eq-eqb a a refl))
     idle-as (Decided a) e =
         absurd (idle .undecided _ (shown-decided f l new s i
         (subst (StationShows (floorAt f l i .used) (floorAt f l i .rows) s (stationAt (floorAt f l i) s .decided)) e (reached-at f l new i .shows .stations s))))

@@ -5,10 +5,11 @@ use mathlib.Core.Logic.{_⊎_}
 use mathlib.Core.Bool.{false}
 use mathlib.Core.List.{List}
 use lib.ListN.{length}
-use Rattle.floor.specs.Step.{isRefused}
-use Rattle.floor.specs.declared.Command.the-variants.{Begin}
-use Rattle.floor.specs.declared.Outcome.the-variants as said
-use Rattle.agreement.specs.Words.{commandAt, saidAt, DecidesAt, shownAt}
+use Rattle.commands.specs.Outcomes.{isRefused}
+use Rattle.commands.specs.declared.Command.the-variants.{Begin}
+use Rattle.commands.specs.declared.Outcome.the-variants as said
+use Rattle.agreement.specs.Words.{commandAt, DecidesAt, shownAt}
+use Rattle.floor.specs.Runs.{saidAt}
 use Rattle.agreement.specs.Demand.{firstFloor}
 
 pub record Consequences (n m : ℕ) (l : List (List ℕ)) : Type 0 where

@@ -6,18 +6,19 @@ use mathlib.Core.Bool.{false}
 use mathlib.Core.List.{List, _++_}
 use lib.ListN.{length}
 use Rattle.base.specs.Numbers.{quorum}
-use Rattle.protocol.specs.Quorum.{AtLeast}
+use Rattle.base.specs.Quorum.{AtLeast}
 use Rattle.floor.specs.Floors.{newFloorOf}
-use Rattle.floor.specs.Step.{isRefused}
+use Rattle.commands.specs.Outcomes.{isRefused}
 use Rattle.floor.specs.declared.Floor.{Floor}
-use Rattle.floor.specs.declared.Outcome.the-variants as said
+use Rattle.commands.specs.declared.Outcome.the-variants as said
 use Rattle.solo.specs.Solo.{soloOf}
 use Rattle.base.specs.Records.{AllRecords}
 use Rattle.solo.specs.declared.Solo.{Solo}
-use Rattle.agreement.specs.Words.{Before, floorLeft, saidAt, OfferedAt, DecidesAt, OutrankedAt, ShownAt, Answering, IdleAt, attemptsBefore, RoundLeft}
+use Rattle.agreement.specs.Words.{Before, OfferedAt, DecidesAt, OutrankedAt, ShownAt, Answering, IdleAt, attemptsBefore, RoundLeft}
+use Rattle.floor.specs.Runs.{floorLeft, saidAt}
 
 -- "It .. starts from a new floor of any n and m." Where they are out of range that is the floor of one box and one station.
-abbrev pub firstFloor : ℕ → ℕ → Floor
+abbrev pub firstFloor : (n m : ℕ) → Floor
 firstFloor n m = newFloorOf n m .floor
 
 -- What holds whatever the steps are (safety).
@@ -62,3 +63,7 @@ pub record Demand3 (n m : ℕ) (l : List (List ℕ)) : Type 0 where
       → 0 < v
       → v < 4294967296
       → DrivenAlone (firstFloor n m) l s (soloOf (floorLeft (firstFloor n m) l) s v)
+
+-- "Demand 3 is a single claim about the list": it holds of every list, from a new floor of any n and m.
+abbrev pub Demand3Theorem : Type 0
+Demand3Theorem = (n m : ℕ) (l : List (List ℕ)) → Demand3 n m l

@@ -1,4 +1,4 @@
 pub mod Words
 pub mod Demand
 pub mod Consequences
-pub mod Played
+pub mod Files

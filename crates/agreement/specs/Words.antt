@@ -1,21 +1,22 @@
 -- The words of demand 3. Document 01, "The list of demand 3": "Its words are read off the records and off what accepted steps
--- said". A step is named by its position in the list, from 0, and earlier is `<`. Only `floorAt` and `shownAt` speak of the floor.
-use Prim.Native.Nat.{ℕ, zero, suc, _≤_, _<_}
+-- said". A step is named by its position in the list, from 0, and earlier is `<`. Only `shownAt` speaks of the floor; `floorAt` and `saidAt` are
+-- the floor before a step and what the step said.
+use Prim.Native.Nat.{ℕ, _≤_, _<_}
 use mathlib.Core.Path.{_≡_}
-use mathlib.Core.Logic.{_⊎_}
-use mathlib.Core.Bool.{Bool, true, false}
 use mathlib.Core.List.{List, []}
-use lib.ListN.{length, getD}
+use lib.ListN.{getD}
 use Rattle.base.specs.Numbers.{rankOf}
-use Rattle.protocol.specs.Quorum.{count}
-use Rattle.floor.specs.State.{stationAt}
-use Rattle.floor.specs.Commands.{commandOf}
-use Rattle.floor.specs.Step.{stepOf}
+use Rattle.base.specs.Quorum.{count}
+use Rattle.requests.specs.declared.Phase.{Phase}
+use Rattle.requests.specs.declared.Phase.the-variants.{Write}
+use Rattle.floor.specs.Floors.{stationAt}
+use Rattle.commands.specs.Commands.{commandOf}
+use Rattle.commands.specs.Outcomes.{isBegun}
+use Rattle.floor.specs.Runs.{floorAt, saidAt}
 use Rattle.floor.specs.declared.Floor.{Floor}
-use Rattle.floor.specs.declared.Command.{Command}
-use Rattle.floor.specs.declared.Command.the-variants.{Begin, ServeRead, ServeWrite, DeliverWrite}
-use Rattle.floor.specs.declared.Outcome.{Outcome}
-use Rattle.floor.specs.declared.Outcome.the-variants as said
+use Rattle.commands.specs.declared.Command.{Command}
+use Rattle.commands.specs.declared.Command.the-variants.{Begin, Serve, Deliver}
+use Rattle.commands.specs.declared.Outcome.the-variants as said
 
 -- P holds at a position before i
 pub record Before (P : ℕ → Type 0) (i : ℕ) : Type 0 where
@@ -25,35 +26,11 @@ pub record Before (P : ℕ → Type 0) (i : ℕ) : Type 0 where
 
 -- "It holds single steps with any bytes": a record is a list of numbers, whatever they are and however many. Behind the end of
 -- the list a record has no bytes, and its step is refused.
-abbrev pub commandAt : List (List ℕ) → ℕ → Command
+abbrev pub commandAt : (l : List (List ℕ)) (i : ℕ) → Command
 commandAt l i = commandOf (getD l i [])
-
-abbrev pub isBegun : Outcome → Bool
-isBegun (said.Begun a) = true
-isBegun (said.Served a) = false
-isBegun (said.Received a) = false
-isBegun (said.Aborted a) = false
-isBegun (said.WriteIssued v) = false
-isBegun (said.Decided v) = false
-isBegun (said.Stopped b) = false
-isBegun (said.Gone s) = false
-isBegun (said.Refused k) = false
 
 -- The steps of the list l from the floor f.
 module _ (f : Floor) (l : List (List ℕ)) where
-  -- "Each step is given the floor that the one before handed back, after a refused one too": the floor before the step at i
-  unfoldable pub floorAt : ℕ → Floor
-  floorAt zero = f
-  floorAt (suc i) = stepOf (floorAt i) (getD l i []) .floor
-
-  -- the floor that the list left
-  abbrev pub floorLeft : Floor
-  floorLeft = floorAt (length l)
-
-  -- what the step at i said
-  abbrev pub saidAt : ℕ → Outcome
-  saidAt i = stepOf (floorAt i) (getD l i []) .outcome
-
   -- "An attempt is an accepted begin, with that step's station and rank; its revision is the offer." (A ballot of Paxos.) The
   -- begin says the number by which later steps name the attempt.
   pub record Attempt : Type 0 where
@@ -63,15 +40,15 @@ module _ (f : Floor) (l : List (List ℕ)) where
     pub offer : ℕ
     pub number : ℕ
     pub asked : commandAt l at ≡ Begin station round offer
-    pub begun : saidAt at ≡ said.Begun number
+    pub begun : saidAt f l at ≡ said.Begun number
 
-  abbrev pub attemptRank : Attempt → ℕ
+  abbrev pub attemptRank : (x : Attempt) → ℕ
   attemptRank x = rankOf (x .round) (x .station)
 
   -- its number names the attempt x at the position i: its begin is the last before i that said this number
   pub record Named (x : Attempt) (i : ℕ) : Type 0 where
     pub earlier : x .at < i
-    pub last : (k : ℕ) → x .at < k → k < i → ¬ (saidAt k ≡ said.Begun (x .number))
+    pub last : (k : ℕ) → x .at < k → k < i → ¬ (saidAt f l k ≡ said.Begun (x .number))
 
   -- a revision is offered by the attempt that begins with it
   pub record OfferedAt (v i : ℕ) : Type 0 where
@@ -84,8 +61,9 @@ module _ (f : Floor) (l : List (List ℕ)) where
     pub attempt : Attempt
     pub named : Named attempt i
     pub rank : attemptRank attempt ≡ r
-    pub asked : (commandAt l i ≡ ServeRead (attempt .number) b) ⊎ (commandAt l i ≡ ServeWrite (attempt .number) b)
-    pub accepted : saidAt i ≡ said.Served (attempt .number)
+    pub phase : Phase
+    pub asked : commandAt l i ≡ Serve phase (attempt .number) b
+    pub accepted : saidAt f l i ≡ said.Served (attempt .number)
 
   -- "An attempt's station decides, or the attempt aborts, at the delivery that says so." The station s decides the revision v.
   pub record DecidesAt (s v i : ℕ) : Type 0 where
@@ -93,15 +71,15 @@ module _ (f : Floor) (l : List (List ℕ)) where
     pub named : Named attempt i
     pub station : attempt .station ≡ s
     pub box : ℕ
-    pub asked : commandAt l i ≡ DeliverWrite (attempt .number) box
-    pub accepted : saidAt i ≡ said.Decided v
+    pub asked : commandAt l i ≡ Deliver Write (attempt .number) box
+    pub accepted : saidAt f l i ≡ said.Decided v
 
   -- the attempt x aborts
   pub record AbortsAt (x : Attempt) (i : ℕ) : Type 0 where
     pub named : Named x i
     pub box : ℕ
-    pub asked : commandAt l i ≡ DeliverWrite (x .number) box
-    pub accepted : saidAt i ≡ said.Aborted (x .number)
+    pub asked : commandAt l i ≡ Deliver Write (x .number) box
+    pub accepted : saidAt f l i ≡ said.Aborted (x .number)
 
   -- "before each abort a rank higher than the aborted one was served at a box": the abort at i
   pub record OutrankedAt (i : ℕ) : Type 0 where
@@ -113,8 +91,8 @@ module _ (f : Floor) (l : List (List ℕ)) where
     pub served : Before (ServedAt rank box) i
 
   -- the decided revision that the floor before the step at i shows for the station s, 0 for none
-  abbrev pub shownAt : ℕ → ℕ → ℕ
-  shownAt s i = stationAt (floorAt i) s .decided
+  abbrev pub shownAt : (s i : ℕ) → ℕ
+  shownAt s i = stationAt (floorAt f l i) s .decided
 
   -- "The decided revision that the floor shows for a station is the one so said, and none only where none was said."
   pub record ShownAt (s i : ℕ) : Type 0 where
@@ -122,18 +100,18 @@ module _ (f : Floor) (l : List (List ℕ)) where
     pub none : shownAt s i ≡ 0 → (v : ℕ) → ¬ Before (DecidesAt s v) i
 
   -- What a solo finish is given, before the step at i. "A box answers if no accepted step stopped it."
-  abbrev pub Answering : ℕ → ℕ → Type 0
-  Answering i b = ¬ Before (λ k. saidAt k ≡ said.Stopped b) i
+  abbrev pub Answering : (i b : ℕ) → Type 0
+  Answering i b = ¬ Before (λ k. saidAt f l k ≡ said.Stopped b) i
 
   -- "A station is idle if it is not gone, never decided, and all its attempts, if any, aborted."
   pub record IdleAt (s i : ℕ) : Type 0 where
-    pub here : ¬ Before (λ k. saidAt k ≡ said.Gone s) i
+    pub here : ¬ Before (λ k. saidAt f l k ≡ said.Gone s) i
     pub undecided : (v : ℕ) → ¬ Before (DecidesAt s v) i
     pub aborted : (x : Attempt) → x .at < i → x .station ≡ s → Before (AbortsAt x) i
 
   -- how many attempts were begun before the step at i
-  abbrev pub attemptsBefore : ℕ → ℕ
-  attemptsBefore i = count (λ k. isBegun (saidAt k)) i
+  abbrev pub attemptsBefore : (i : ℕ) → ℕ
+  attemptsBefore i = count (λ k. isBegun (saidAt f l k)) i
 
   -- "a round left that outranks every attempt begun", by the station s
   pub record RoundLeft (s i : ℕ) : Type 0 where

@@ -2,7 +2,7 @@
 use Prim.Native.Nat.{ℕ, _<_}
 use native.Mathlib.Omega.{arith}
 use mathlib.Core.Bool.{Bool, true, false, false≢true}
-use mathlib.Core.Path.{_≡_, refl}
+use mathlib.Core.Path.{_≡_, refl, sym}
 use Rattle.base.specs.Choice.{if_then_else_}
 
 -- the test holds
@@ -31,6 +31,12 @@ pub first-false : (t x : Bool) → (if t then false else x) ≡ true → (t ≡ 
 unfolding if_then_else_
 first-false true x e = absurd (false≢true e)
 first-false false x e = (refl, e)
+
+-- and one that ends in false
+pub both-false : (t x : Bool) → (if t then true else x) ≡ false → (t ≡ false) × (x ≡ false)
+unfolding if_then_else_
+both-false true x e = absurd (false≢true (sym e))
+both-false false x e = (refl, e)
 
 -- a chain of refusals that came to 0: its first test failed
 pub passed : (t : Bool) (k x : ℕ) → (if t then k else x) ≡ 0 → 0 < k → (t ≡ false) × (x ≡ 0)

@@ -1,4 +1,10 @@
+pub mod Cases
 pub mod Choices
 pub mod Tests
+pub mod Stores
+pub mod ByteLaws
 pub mod RecordLaws
 pub mod SizeLaws
+pub mod QuorumLaws
+pub mod MaskLaws
+pub mod Claims

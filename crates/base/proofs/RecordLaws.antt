@@ -1,5 +1,5 @@
 -- The records of a list of bytes: how long they are, how many, and that joined they are the bytes they were cut from.
-use Prim.Native.Nat.{ℕ, zero, suc, _+_, _-_, _*_, _≤_, _<_}
+use Prim.Native.Nat.{ℕ, zero, suc, _+_, _-_, _*_, _/_, _≤_, _<_}
 use mathlib.Core.Path.{_≡_, refl, sym, ap, ap₂, _∙_}
 use mathlib.Core.List.{List, [], _∷_, _++_, flatten, append-assoc}
 use native.Mathlib.Nat.{add-suc, add-assoc}
@@ -71,6 +71,12 @@ records-back (r ∷ rs) h p =
     let head = record-whole (p ++ (r ++ flatten rs)) (length p) fits ∙ ap (take 8) (drop-append-seam p (r ++ flatten rs)) ∙ take-at r (flatten rs) 8 eight in
     rw (head, ← size, ← (append-assoc p r (flatten rs)), back)
 
+-- joined lists of records, one behind the other
+pub joined-append : (xs ys : List (List ℕ)) → flatten (xs ++ ys) ≡ flatten xs ++ flatten ys
+unfolding flatten
+joined-append [] ys = refl
+joined-append (x ∷ xs) ys = ap (λ (l : List ℕ). x ++ l) (joined-append xs ys) ∙ sym (append-assoc x (flatten xs) (flatten ys))
+
 -- the records of the bytes from q on
 pub record-drop : (s : List ℕ) (q p : ℕ) → recordAt (drop q s) p ≡ recordAt s (q + p)
 unfolding recordAt
@@ -91,3 +97,15 @@ pub all-take : (k : ℕ) (xs : List (List ℕ)) → AllRecords xs → AllRecords
 all-take zero xs a = tt
 all-take (suc k) [] a = tt
 all-take (suc k) (x ∷ xs) a = (a .0, all-take k xs (a .1))
+
+pub all-eight : (rs : List (List ℕ)) → AllRecords rs → (i : ℕ) → i < length rs → length (getD rs i []) ≡ 8
+all-eight [] a i h = absurd (omega arith)
+all-eight (r ∷ rs) a zero h = a .0 .eight
+all-eight (r ∷ rs) a (suc i) h = all-eight rs (a .1) i (omega arith)
+
+-- records of 8 bytes, joined, are as many records again
+pub records-again : (rs : List (List ℕ)) → AllRecords rs → recordsFrom (length (flatten rs) / 8) (flatten rs) 0 ≡ rs
+records-again rs a =
+    let size = joined-length rs (all-eight rs a) in
+    let count : length (flatten rs) / 8 ≡ length rs = omega arith in
+    rw count (records-back rs (all-eight rs a) [])

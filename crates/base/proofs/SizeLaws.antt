@@ -1,17 +1,11 @@
 -- What the test of refusal 3 says, both ways.
-use Prim.Native.Nat.{ℕ, _≤_}
+use Prim.Native.Nat.{ℕ}
 use mathlib.Core.Path.{_≡_, refl, sym}
 use mathlib.Core.Bool.{true}
 use borrow.Author.Tests.{ltb-false, le-ltb}
+use Rattle.base.specs.Claims.{Sizes}
 use Rattle.base.specs.Numbers.{sizesRight}
 use Rattle.base.proofs.Choices.{on-false, first-false}
-
--- refusal 3 does not apply
-pub record Sizes (n m : ℕ) : Type 0 where
-  pub box-least : 1 ≤ n
-  pub box-most : n ≤ 9
-  pub station-least : 1 ≤ m
-  pub station-most : m ≤ 16
 
 pub sizes-mean : (n m : ℕ) → sizesRight n m ≡ true → Sizes n m
 unfolding sizesRight

@@ -1,3 +1,7 @@
 pub mod Choice
 pub mod Numbers
+pub mod Bytes
 pub mod Records
+pub mod Quorum
+pub mod Mask
+pub mod Claims

@@ -1,12 +1,11 @@
--- Document 01, "The floor": how many boxes and stations a floor may have, how many boxes make a quorum, and what a rank is; and
--- the numbers that bytes spell.
+-- Document 01, "The floor": how many boxes and stations a floor may have, how many boxes make a quorum, and what a rank is.
 use Prim.Native.Nat.{ℕ, _+_, _*_, _/_}
 use mathlib.Core.Bool.{Bool, true, false}
 use lib.Dec.{ltb}
 use Rattle.base.specs.Choice.{if_then_else_}
 
 -- "A floor has n boxes (1 to 9, numbered from 0) and m stations (1 to 16, numbered from 0)"; refusal 3 where this fails.
-unfoldable pub sizesRight : ℕ → ℕ → Bool
+unfoldable pub sizesRight : (n m : ℕ) → Bool
 sizesRight n m =
     if ltb n 1 then false
     else if ltb 9 n then false
@@ -15,16 +14,9 @@ sizesRight n m =
     else true
 
 -- "q = n / 2 rounded down, plus 1": the size of a quorum, a majority of all boxes.
-abbrev pub quorum : ℕ → ℕ
+abbrev pub quorum : (n : ℕ) → ℕ
 quorum n = n / 2 + 1
 
 -- "Rank = round × 16 + station number": the paper's rank, totally ordered and never shared by two stations.
-abbrev pub rankOf : ℕ → ℕ → ℕ
+abbrev pub rankOf : (round station : ℕ) → ℕ
 rankOf round station = round * 16 + station
-
--- big-endian numbers of 16 and of 32 bits
-abbrev pub word16 : ℕ → ℕ → ℕ
-word16 a b = a * 256 + b
-
-abbrev pub word32 : ℕ → ℕ → ℕ → ℕ → ℕ
-word32 a b c d = ((a * 256 + b) * 256 + c) * 256 + d

@@ -1,11 +1,12 @@
 -- Document 01, "The drill file": records of 8 bytes in a list of bytes.
-use Prim.Native.Nat.{ℕ, zero, suc, _+_, _<_}
+use Prim.Native.Nat.{ℕ, zero, suc, _+_}
 use mathlib.Core.Path.{_≡_}
 use mathlib.Core.List.{List, [], _∷_}
 use lib.ListN.{length, getD}
+use Rattle.base.specs.Bytes.{Bytes}
 
 -- the record of 8 bytes at place p; a byte past the end of the list is 0
-unfoldable pub recordAt : List ℕ → ℕ → List ℕ
+unfoldable pub recordAt : (s : List ℕ) (p : ℕ) → List ℕ
 recordAt s p =
     getD s p 0
     ∷ getD s (p + 1) 0
@@ -18,20 +19,15 @@ recordAt s p =
     ∷ []
 
 -- k records, one behind the other, from p on
-unfoldable pub recordsFrom : ℕ → List ℕ → ℕ → List (List ℕ)
+unfoldable pub recordsFrom : (k : ℕ) (s : List ℕ) (p : ℕ) → List (List ℕ)
 recordsFrom zero s p = []
 recordsFrom (suc k) s p = recordAt s p ∷ recordsFrom k s (p + 8)
-
--- a list of bytes
-abbrev pub Bytes : List ℕ → Type 0
-Bytes [] = Unit {0}
-Bytes (x ∷ l) = (x < 256) × Bytes l
 
 -- a record: 8 bytes
 pub record IsRecord (r : List ℕ) : Type 0 where
   pub eight : length r ≡ 8
   pub bytes : Bytes r
 
-abbrev pub AllRecords : List (List ℕ) → Type 0
+abbrev pub AllRecords : (rs : List (List ℕ)) → Type 0
 AllRecords [] = Unit {0}
 AllRecords (r ∷ rs) = IsRecord r × AllRecords rs

@@ -1,6 +1,9 @@
 // What several crates compute: big-endian numbers, the size of a quorum, and refusal 3.
 ghost use mathlib.Core.Path.{_≡_};
-ghost use Rattle.base.specs.Numbers.{sizesRight, quorum, word16, word32};
+ghost use Prim.Native.Nat.{_+_, _≤_};
+ghost use lib.ListN.{length};
+ghost use Rattle.base.specs.Numbers.{sizesRight, quorum};
+ghost use Rattle.base.specs.Bytes.{word16, word32, bytes16, bytes32, wordAt, withWord};
 
 // The number of two bytes, big-endian.
 pub fn be16(high: u8, low: u8) -> u16
@@ -14,6 +17,44 @@ pub fn be32(a: u8, b: u8, c: u8, d: u8) -> u32
     ensures { λ r. ⌜ r ≡ word32 a b c d ⌝ }
 {
     ((a as u32 * 256 + b as u32) * 256 + c as u32) * 256 + d as u32
+}
+
+// The bytes of a number, big-endian: two, and four.
+pub fn split16(x: u16) -> [u8; 2]
+    ensures { λ r. ⌜ r ≡ bytes16 x ⌝ }
+{
+    [(x / 256) as u8, (x % 256) as u8]
+}
+
+pub fn split32(x: u32) -> [u8; 4]
+    ensures { λ r. ⌜ r ≡ bytes32 x ⌝ }
+{
+    [
+        (x / 16777216) as u8,
+        (x / 65536 % 256) as u8,
+        (x / 256 % 256) as u8,
+        (x % 256) as u8,
+    ]
+}
+
+// The number whose four bytes stand from a place on.
+pub fn get_u32(s: &[u8], at: usize) -> u32
+    requires { ⌜ at + 4 ≤ length (now s) ⌝ }
+    ensures { λ y. ⌜ y ≡ wordAt (now (s .entry)) at ⌝ }
+{
+    be32(s[at], s[at + 1], s[at + 2], s[at + 3])
+}
+
+// Stores a number's four bytes from a place on.
+pub fn put_u32(s: &mut [u8], at: usize, x: u32)
+    requires { ⌜ at + 4 ≤ length (now s) ⌝ }
+    ensures { λ _. ⌜ now (s .exit) ≡ withWord (now (s .entry)) at x ⌝ }
+{
+    let bytes = split32(x);
+    s[at] = bytes[0];
+    s[at + 1] = bytes[1];
+    s[at + 2] = bytes[2];
+    s[at + 3] = bytes[3];
 }
 
 // The size of a quorum of n boxes, a majority.

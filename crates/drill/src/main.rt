@@ -2,9 +2,9 @@
 ghost use lib.ListN.{length};
 ghost use Prim.Native.Nat.{_≤_};
 ghost use Rattle.io.specs.Counts.{Counts};
+use attempts::State;
+use attempts::Station;
 use floor::Floor;
-use floor::Phase;
-use floor::Station;
 
 // The text is made in a buffer of 1,024 bytes, which the longest does not fill: a panel line of at most 61 bytes, 16 station
 // lines of at most 42 and an end line of at most 12.
@@ -41,16 +41,16 @@ fn put_number(out: &mut [u8], at: usize, n: u64) -> usize
     put(out, at, &digits[..k])
 }
 
-fn put_state(out: &mut [u8], at: usize, state: Phase) -> usize
+fn put_state(out: &mut [u8], at: usize, state: State) -> usize
     requires { ⌜ at ≤ length (now out) ⌝ }
     ensures { λ r. ⌜ r ≤ length (now (out .exit)) ⌝ }
 {
     match state {
-        Phase::Idle => put(out, at, b" idle "),
-        Phase::Reading(_) => put(out, at, b" reading "),
-        Phase::Writing(_) => put(out, at, b" writing "),
-        Phase::Decided(_) => put(out, at, b" decided "),
-        Phase::Gone => put(out, at, b" gone "),
+        State::Idle => put(out, at, b" idle "),
+        State::Reading(_) => put(out, at, b" reading "),
+        State::Writing(_) => put(out, at, b" writing "),
+        State::Decided(_) => put(out, at, b" decided "),
+        State::Gone => put(out, at, b" gone "),
     }
 }
 

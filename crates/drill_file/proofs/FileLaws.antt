@@ -10,7 +10,8 @@ use lib.Dec.{eqb}
 use lib.ListN.{length, getD, take, drop, drop-of-length-le, List·getD-eq-default}
 use lib.Seq.{drop-cons}
 use Rattle.base.proofs.Choices.{on-true, on-false, by-test}
-use Rattle.drill_file.specs.DrillFile.{boxesOf, stationsOf, labelLength, recordsStart, recordCount, wrongByte, wrongBytes, wrongLabel, fileRefusal, headerOf, refusalIn, labelOf}
+use Rattle.drill_file.specs.Claims.{Values}
+use Rattle.drill_file.specs.DrillFile.{boxesOf, stationsOf, labelLength, recordsStart, recordCount, wrongByte, wrongBytes, wrongLabel, fileRefusal, headerOf, headerRefusal, labelOf}
 use Rattle.drill_file.specs.declared.Header.{Header}
 use Rattle.drill_file.specs.declared.Header.the-variants.{Refused, Accepted}
 use Rattle.drill_file.proofs.TestLaws.{accepted-passed}
@@ -92,10 +93,10 @@ module _ (s : List ℕ) (k : ℕ) (e : k ≡ fileRefusal s) where
           on-true _ accepts (rw same)
 
 -- document 01's number of the header's answer
-pub header-number : (s : List ℕ) → refusalIn (headerOf s) ≡ fileRefusal s
+pub header-number : (s : List ℕ) → headerRefusal (headerOf s) ≡ fileRefusal s
 unfolding headerOf
 header-number s =
-    by-test (λ (h : Header). refusalIn h ≡ fileRefusal s) (eqb (fileRefusal s) 0) _ _
+    by-test (λ (h : Header). headerRefusal h ≡ fileRefusal s) (eqb (fileRefusal s) 0) _ _
     (λ t. sym (eqb-true (fileRefusal s) 0 t)) (λ _. refl)
 
 -- what a caller has in hand where the answer is a refusal, and where it is not
@@ -105,13 +106,6 @@ refused-number s k =
     by-test (λ (h : Header). h ≡ Refused k → (fileRefusal s ≡ k) × (k ≡ 0 → ⊥)) (eqb (fileRefusal s) 0) _ _
     (λ _ e. absurd (let z : _≡_ {A = ℕ} 0 1 = cc in omega arith))
     (λ t e. let same : fileRefusal s ≡ k = cc in (same, λ z. eqb-false (fileRefusal s) 0 t (same ∙ z)))
-
-pub record Values (s : List ℕ) (n m start count : ℕ) : Type 0 where
-  pub accepted : fileRefusal s ≡ 0
-  pub boxes : n ≡ boxesOf s
-  pub stations : m ≡ stationsOf s
-  pub starts : start ≡ recordsStart s
-  pub counts : count ≡ recordCount s
 
 pub accepted-values : (s : List ℕ) (n m start count : ℕ) → headerOf s ≡ Accepted n m start count → Values s n m start count
 unfolding headerOf

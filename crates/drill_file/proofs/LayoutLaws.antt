@@ -1,19 +1,21 @@
 -- An accepted file is exactly its parts, in the documented layout; and a file so laid out is accepted, with these parts.
-use Prim.Native.Nat.{ℕ, suc, _+_, _-_, _*_, _/_, _%_, _≤_, _<_}
+use Prim.Native.Nat.{ℕ, suc, _+_, _-_, _*_, _≤_}
 use mathlib.Core.Path.{_≡_, refl, sym, ap, _∙_}
-use mathlib.Core.List.{List, _∷_, flatten}
+use mathlib.Core.List.{List, _∷_, _++_, flatten}
 use native.Mathlib.Omega.{arith}
 use borrow.Author.Tests.{eq-eqb}
 use lib.ListN.{length, getD, drop, length-append, length-drop, take-append-drop}
 use lib.Seq.{drop-cons, drop-drop, take-all, length-take-le, take-append-seam}
-use Rattle.base.proofs.Choices.{on-true}
-use Rattle.drill_file.specs.DrillFile.{statedSize, boxesOf, stationsOf, labelLength, labelPart, recordsStart, afterLabel, recordCount, fileRefusal, headerOf, labelOf, recordsOf}
+use Rattle.base.specs.Bytes.{Bytes, bytes16}
 use Rattle.base.specs.Records.{recordsFrom}
-use Rattle.drill_file.specs.Layout.{bodyOf, fileOf, Parts, LaidOut}
+use Rattle.base.proofs.Choices.{on-true}
+use Rattle.base.proofs.ByteLaws.{bytes-below, bytes16-of-word}
+use Rattle.base.proofs.RecordLaws.{record-length, records-length, record-nth, records-joined, joined-length, records-back}
+use Rattle.drill_file.specs.DrillFile.{statedSize, boxesOf, stationsOf, labelLength, labelPart, recordsStart, afterLabel, recordCount, fileRefusal, headerOf, labelOf, recordsOf}
+use Rattle.drill_file.specs.Layout.{bodyOf, fileOf, FileParts, LaidOut}
 use Rattle.drill_file.specs.declared.Header.the-variants.{Accepted}
 use Rattle.drill_file.proofs.TestLaws.{accepted-passed, passed-accepted}
 use Rattle.drill_file.proofs.FileLaws.{header-accepted, accepted-values}
-use Rattle.base.proofs.RecordLaws.{record-length, records-length, record-nth, records-joined, joined-length, records-back}
 
 -- the first six bytes of a file, and the rest
 six : (s : List ℕ) → 6 ≤ length s → s ≡ getD s 0 0 ∷ getD s 1 0 ∷ getD s 2 0 ∷ getD s 3 0 ∷ getD s 4 0 ∷ getD s 5 0 ∷ drop 6 s
@@ -41,7 +43,7 @@ module _ (s : List ℕ) (e : fileRefusal s ≡ 0) where
       ∙ take-all (8 * recordCount s) (drop (recordsStart s) s) (rw length-drop (omega (arith, accepted-size)))
 
   -- the parts are such as a file may have
-  pub accepted-parts : Parts (boxesOf s) (stationsOf s) (labelOf s) (recordsOf s)
+  pub accepted-parts : FileParts (boxesOf s) (stationsOf s) (labelOf s) (recordsOf s)
   accepted-parts =
       let p = accepted-passed s e in
       let many = records-length (recordCount s) s (recordsStart s) in
@@ -62,18 +64,17 @@ module _ (s : List ℕ) (e : fileRefusal s ≡ 0) where
   body-is = rw (label-is s e, label-long, accepted-rest, ← (drop-drop (labelLength s) 6 s), take-append-drop (labelLength s) (drop 6 s))
 
   -- the file is these parts in the documented layout, and nothing else
-  pub accepted-exactly : ((i : ℕ) → getD s i 0 < 256) → s ≡ fileOf (boxesOf s) (stationsOf s) (labelOf s) (recordsOf s)
+  pub accepted-exactly : Bytes s → s ≡ fileOf (boxesOf s) (stationsOf s) (labelOf s) (recordsOf s)
   unfolding fileOf
   accepted-exactly b =
       let p = accepted-passed s e in
       let z = p .sized in
       let size : length (drop 6 s) ≡ length s - 6 = length-drop 6 s in
-      let high : getD s 0 0 ≡ suc (suc (suc (suc (length (drop 6 s))))) / 256 = omega (arith, b 1, z .stated, z .least) in
-      let low : getD s 1 0 ≡ suc (suc (suc (suc (length (drop 6 s))))) % 256 = omega (arith, b 1, z .stated, z .least) in
-      rw (← body-is) (six s (z .least) ∙ rw (high, low, p .version))
+      let stated : statedSize s ≡ suc (suc (suc (suc (length (drop 6 s))))) = omega (arith, z .stated, z .least) in
+      rw (← body-is, ← stated) (cc (six s (z .least), p .version, bytes16-of-word (getD s 0 0) (getD s 1 0) (bytes-below s b 1)))
 
 -- whatever file of bytes the reader accepts is laid out as it says
-pub header-layout : (s : List ℕ) → ((i : ℕ) → getD s i 0 < 256) → (n m start count : ℕ) → headerOf s ≡ Accepted n m start count → LaidOut s n m start count
+pub header-layout : (s : List ℕ) → Bytes s → (n m start count : ℕ) → headerOf s ≡ Accepted n m start count → LaidOut s n m start count
 header-layout s b n m start count h =
     let v = accepted-values s n m start count h in
     let e = v .accepted in
@@ -87,7 +88,7 @@ header-layout s b n m start count h =
     })
 
 -- the other way: a file that is written from such parts
-module _ (n m : ℕ) (l : List ℕ) (rs : List (List ℕ)) (p : Parts n m l rs) where
+module _ (n m : ℕ) (l : List ℕ) (rs : List (List ℕ)) (p : FileParts n m l rs) where
   abbrev file : List ℕ
   file = fileOf n m l rs
 
@@ -141,8 +142,7 @@ module _ (n m : ℕ) (l : List ℕ) (rs : List (List ℕ)) (p : Parts n m l rs) 
   pub written-records : recordsOf file ≡ rs
   unfolding fileOf bodyOf
   written-records =
-      let body = length (bodyOf n m l rs) in
-      let head : List ℕ = body / 256 ∷ body % 256 ∷ 1 ∷ n ∷ m ∷ length l ∷ l in
+      let head : List ℕ = bytes16 (length (bodyOf n m l rs)) ++ (1 ∷ n ∷ m ∷ length l ∷ l) in
       let start : recordsStart file ≡ length head = omega arith in
       ap (λ (k : ℕ). recordsFrom k file (recordsStart file)) count
       ∙ ap (recordsFrom (length rs) file) start

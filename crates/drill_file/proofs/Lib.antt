@@ -1,3 +1,4 @@
 pub mod TestLaws
 pub mod FileLaws
 pub mod LayoutLaws
+pub mod Claims

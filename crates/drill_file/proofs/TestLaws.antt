@@ -1,5 +1,5 @@
 -- What it means that none of the refusals 1 to 5 applies to a file, both ways.
-use Prim.Native.Nat.{ℕ, zero, suc, _-_, _%_, _≤_, _<_}
+use Prim.Native.Nat.{ℕ, zero, suc, _-_, _%_, _<_}
 use mathlib.Core.Path.{_≡_, refl, sym, ap}
 use mathlib.Core.Bool.{Bool, true, false, not, true≢false}
 use mathlib.Core.List.{List, [], _∷_}
@@ -7,27 +7,16 @@ use native.Mathlib.Omega.{arith}
 use borrow.Author.Tests.{ltb-false, eqb-true, not-false, le-ltb, eq-eqb}
 use lib.Dec.{eqb, ltb}
 use lib.ListN.{length, getD}
-use Rattle.base.specs.Choice.{if_then_else_}
-use Rattle.base.proofs.Choices.{on-true, on-false, by-test, passed}
-use Rattle.base.proofs.SizeLaws.{Sizes, sizes-mean, sizes-hold}
+use Rattle.base.proofs.Choices.{on-true, on-false, by-test, both-false, passed}
+use Rattle.base.proofs.SizeLaws.{sizes-mean, sizes-hold}
+use Rattle.drill_file.specs.Claims.{Sized, Printable, Labelled, Recorded, Passed}
 use Rattle.drill_file.specs.DrillFile.{statedSize, versionOf, boxesOf, stationsOf, labelLength, labelPart, recordsStart, afterLabel, recordCount, wrongSize, wrongVersion, wrongFloor, wrongByte, wrongBytes, wrongLabel, wrongRecords, fileRefusal}
-
--- a chain of tests that ends in false: each of them failed
-none-true : (t x : Bool) → (if t then true else x) ≡ false → (t ≡ false) × (x ≡ false)
-none-true t x =
-    by-test (λ (y : Bool). y ≡ false → (t ≡ false) × (x ≡ false)) t true x (λ _ e. absurd (true≢false e)) (λ u e. (u, e))
-
--- refusal 1
-pub record Sized (s : List ℕ) : Type 0 where
-  pub least : 6 ≤ length s
-  pub most : length s ≤ 32806
-  pub stated : statedSize s ≡ length s - 2
 
 size-means : (s : List ℕ) → wrongSize s ≡ false → Sized s
 unfolding wrongSize
 size-means s e =
-    let a = none-true _ _ e in
-    let b = none-true _ _ (a .1) in
+    let a = both-false _ _ e in
+    let b = both-false _ _ (a .1) in
     record {
       least = ltb-false (length s) 6 (a .0);
       most = ltb-false 32806 (length s) (b .0);
@@ -40,13 +29,9 @@ size-holds s z =
     sym (on-false _ (le-ltb (length s) 6 (z .least))
     (on-false _ (le-ltb 32806 (length s) (z .most)) (ap not (sym (eq-eqb (statedSize s) (length s - 2) (z .stated))))))
 
--- refusal 4
-abbrev pub Printable : ℕ → Type 0
-Printable b = (33 ≤ b) × (b ≤ 126)
-
 byte-means : (b : ℕ) → wrongByte b ≡ false → Printable b
 unfolding wrongByte
-byte-means b e = let a = none-true _ _ e in (ltb-false b 33 (a .0), ltb-false 126 b (a .1))
+byte-means b e = let a = both-false _ _ e in (ltb-false b 33 (a .0), ltb-false 126 b (a .1))
 
 byte-holds : (b : ℕ) → Printable b → wrongByte b ≡ false
 unfolding wrongByte
@@ -55,8 +40,8 @@ byte-holds b p = sym (on-false _ (le-ltb b 33 (p .0)) (sym (le-ltb 126 b (p .1))
 bytes-mean : (l : List ℕ) → wrongBytes l ≡ false → (i : ℕ) → i < length l → Printable (getD l i 0)
 unfolding wrongBytes
 bytes-mean [] e i h = absurd (omega arith)
-bytes-mean (b ∷ l) e zero h = byte-means b (none-true _ _ e .0)
-bytes-mean (b ∷ l) e (suc i) h = bytes-mean l (none-true _ _ e .1) i (omega arith)
+bytes-mean (b ∷ l) e zero h = byte-means b (both-false _ _ e .0)
+bytes-mean (b ∷ l) e (suc i) h = bytes-mean l (both-false _ _ e .1) i (omega arith)
 
 bytes-hold : (l : List ℕ) → ((i : ℕ) → i < length l → Printable (getD l i 0)) → wrongBytes l ≡ false
 unfolding wrongBytes
@@ -64,18 +49,12 @@ bytes-hold [] h = refl
 bytes-hold (b ∷ l) h =
     sym (on-false _ (byte-holds b (h 0 (omega arith))) (sym (bytes-hold l (λ i k. h (suc i) (omega arith)))))
 
-pub record Labelled (s : List ℕ) : Type 0 where
-  pub some : 1 ≤ labelLength s
-  pub few : labelLength s ≤ 32
-  pub within : recordsStart s ≤ length s
-  pub printable : (i : ℕ) → i < length (labelPart s) → Printable (getD (labelPart s) i 0)
-
 label-means : (s : List ℕ) → wrongLabel s ≡ false → Labelled s
 unfolding wrongLabel
 label-means s e =
-    let a = none-true _ _ e in
-    let b = none-true _ _ (a .1) in
-    let c = none-true _ _ (b .1) in
+    let a = both-false _ _ e in
+    let b = both-false _ _ (a .1) in
+    let c = both-false _ _ (b .1) in
     record {
       some = ltb-false (labelLength s) 1 (a .0);
       few = ltb-false 32 (labelLength s) (b .0);
@@ -89,11 +68,6 @@ label-holds s l =
     sym (on-false _ (le-ltb (labelLength s) 1 (l .some)) (on-false _ (le-ltb 32 (labelLength s) (l .few))
     (on-false _ (le-ltb (length s) (recordsStart s) (l .within)) (sym (bytes-hold (labelPart s) (l .printable))))))
 
--- refusal 5
-pub record Recorded (s : List ℕ) : Type 0 where
-  pub whole : afterLabel s % 8 ≡ 0
-  pub few : recordCount s ≤ 4096
-
 records-mean : (s : List ℕ) → wrongRecords s ≡ false → Recorded s
 unfolding wrongRecords
 records-mean s =
@@ -103,14 +77,6 @@ records-mean s =
 records-hold : (s : List ℕ) → Recorded s → wrongRecords s ≡ false
 unfolding wrongRecords
 records-hold s r = sym (on-true _ (eq-eqb (afterLabel s % 8) 0 (r .whole)) (sym (le-ltb 4096 (recordCount s) (r .few))))
-
--- none of the five applies
-pub record Passed (s : List ℕ) : Type 0 where
-  pub sized : Sized s
-  pub version : versionOf s ≡ 1
-  pub floored : Sizes (boxesOf s) (stationsOf s)
-  pub labelled : Labelled s
-  pub recorded : Recorded s
 
 pub accepted-passed : (s : List ℕ) → fileRefusal s ≡ 0 → Passed s
 unfolding fileRefusal wrongVersion wrongFloor

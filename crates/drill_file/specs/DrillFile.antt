@@ -1,70 +1,71 @@
 -- Document 01, "The drill file" and the refusals 1 to 5. A file is the list of its bytes; past its end a byte reads 0.
-use Prim.Native.Nat.{ℕ, _+_, _-_, _*_, _/_, _%_}
+use Prim.Native.Nat.{ℕ, _+_, _-_, _/_, _%_}
 use mathlib.Core.Bool.{Bool, true, false, not}
 use mathlib.Core.List.{List, [], _∷_}
 use lib.Dec.{eqb, ltb}
 use lib.ListN.{length, getD, take, drop}
 use Rattle.base.specs.Choice.{if_then_else_}
 use Rattle.base.specs.Numbers.{sizesRight}
+use Rattle.base.specs.Bytes.{word16}
 use Rattle.base.specs.Records.{recordsFrom}
 use Rattle.drill_file.specs.declared.Header.{Header}
 use Rattle.drill_file.specs.declared.Header.the-variants.{Refused, Accepted}
 
 -- "Two bytes L, big-endian, the number of bytes after them"
-abbrev pub statedSize : List ℕ → ℕ
-statedSize s = getD s 0 0 * 256 + getD s 1 0
+abbrev pub statedSize : (s : List ℕ) → ℕ
+statedSize s = word16 (getD s 0 0) (getD s 1 0)
 
 -- "version byte 1; n; m; label length 1 to 32"
-abbrev pub versionOf : List ℕ → ℕ
+abbrev pub versionOf : (s : List ℕ) → ℕ
 versionOf s = getD s 2 0
 
-abbrev pub boxesOf : List ℕ → ℕ
+abbrev pub boxesOf : (s : List ℕ) → ℕ
 boxesOf s = getD s 3 0
 
-abbrev pub stationsOf : List ℕ → ℕ
+abbrev pub stationsOf : (s : List ℕ) → ℕ
 stationsOf s = getD s 4 0
 
-abbrev pub labelLength : List ℕ → ℕ
+abbrev pub labelLength : (s : List ℕ) → ℕ
 labelLength s = getD s 5 0
 
 -- "the label": that many bytes, behind the label length
-abbrev pub labelPart : List ℕ → List ℕ
+abbrev pub labelPart : (s : List ℕ) → List ℕ
 labelPart s = take (labelLength s) (drop 6 s)
 
 -- "then records of 8 bytes": where they start, how many bytes stand there, how many records those make
-abbrev pub recordsStart : List ℕ → ℕ
+abbrev pub recordsStart : (s : List ℕ) → ℕ
 recordsStart s = 6 + labelLength s
 
-abbrev pub afterLabel : List ℕ → ℕ
+abbrev pub afterLabel : (s : List ℕ) → ℕ
 afterLabel s = length s - recordsStart s
 
-abbrev pub recordCount : List ℕ → ℕ
+abbrev pub recordCount : (s : List ℕ) → ℕ
 recordCount s = afterLabel s / 8
 
 -- 1. "The file has fewer than 6 or more than 32,806 bytes, or L is not its size less 2."
-unfoldable pub wrongSize : List ℕ → Bool
+unfoldable pub wrongSize : (s : List ℕ) → Bool
 wrongSize s =
     if ltb (length s) 6 then true
     else if ltb 32806 (length s) then true
     else not (eqb (statedSize s) (length s - 2))
 
 -- 2. "The version byte is not 1."
-unfoldable pub wrongVersion : List ℕ → Bool
+unfoldable pub wrongVersion : (s : List ℕ) → Bool
 wrongVersion s = not (eqb (versionOf s) 1)
 
 -- 3. "n is not 1 to 9 or m is not 1 to 16"
-unfoldable pub wrongFloor : List ℕ → Bool
+unfoldable pub wrongFloor : (s : List ℕ) → Bool
 wrongFloor s = not (sizesRight (boxesOf s) (stationsOf s))
 
 -- 4. "The label length is not 1 to 32, or the label passes the end, or a label byte is not 33 to 126."
-unfoldable pub wrongByte : ℕ → Bool
+unfoldable pub wrongByte : (b : ℕ) → Bool
 wrongByte b = if ltb b 33 then true else ltb 126 b
 
-unfoldable pub wrongBytes : List ℕ → Bool
+unfoldable pub wrongBytes : (bs : List ℕ) → Bool
 wrongBytes [] = false
 wrongBytes (b ∷ bs) = if wrongByte b then true else wrongBytes bs
 
-unfoldable pub wrongLabel : List ℕ → Bool
+unfoldable pub wrongLabel : (s : List ℕ) → Bool
 wrongLabel s =
     if ltb (labelLength s) 1 then true
     else if ltb 32 (labelLength s) then true
@@ -72,11 +73,11 @@ wrongLabel s =
     else wrongBytes (labelPart s)
 
 -- 5. "What follows the label is not whole records, or is more than 4,096 of them."
-unfoldable pub wrongRecords : List ℕ → Bool
+unfoldable pub wrongRecords : (s : List ℕ) → Bool
 wrongRecords s = if eqb (afterLabel s % 8) 0 then ltb 4096 (recordCount s) else true
 
 -- "The first that applies is given", 0 where none does: the file is then accepted.
-unfoldable pub fileRefusal : List ℕ → ℕ
+unfoldable pub fileRefusal : (s : List ℕ) → ℕ
 fileRefusal s =
     if wrongSize s then 1
     else if wrongVersion s then 2
@@ -86,20 +87,20 @@ fileRefusal s =
     else 0
 
 -- what the header's answer is: the refusal, or n, m, where the records start and how many there are
-unfoldable pub headerOf : List ℕ → Header
+unfoldable pub headerOf : (s : List ℕ) → Header
 headerOf s =
     if eqb (fileRefusal s) 0 then Accepted (boxesOf s) (stationsOf s) (recordsStart s) (recordCount s)
     else Refused (fileRefusal s)
 
 -- document 01's number of each case of the answer: the refusal, 0 where the file is accepted
-abbrev pub refusalIn : Header → ℕ
-refusalIn (Refused k) = k
-refusalIn (Accepted n m start count) = 0
+abbrev pub headerRefusal : (h : Header) → ℕ
+headerRefusal (Refused k) = k
+headerRefusal (Accepted n m start count) = 0
 
 -- "The reader hands back the label as that part of the file"; "a file refused before its records are played gives an empty label"
-unfoldable pub labelOf : List ℕ → List ℕ
+unfoldable pub labelOf : (s : List ℕ) → List ℕ
 labelOf s = if eqb (fileRefusal s) 0 then labelPart s else []
 
 -- "then records of 8 bytes": those of an accepted file
-abbrev pub recordsOf : List ℕ → List (List ℕ)
+abbrev pub recordsOf : (s : List ℕ) → List (List ℕ)
 recordsOf s = recordsFrom (recordCount s) s (recordsStart s)

@@ -1,2 +1,3 @@
 pub mod DrillFile
 pub mod Layout
+pub mod Claims

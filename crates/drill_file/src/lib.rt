@@ -1,8 +1,7 @@
 // The drill file: its header, its label and its records (document 01, "The drill file" and the refusals 1 to 5).
 ghost use mathlib.Core.Path.{_≡_};
-ghost use Prim.Native.Nat.{_+_, _*_};
 ghost use lib.ListN.{getD};
-ghost use Rattle.drill_file.specs.DrillFile.{recordsStart, afterLabel, wrongSize, wrongVersion, wrongFloor, wrongByte, wrongBytes, wrongLabel, wrongRecords, fileRefusal, headerOf, refusalIn, labelOf};
+ghost use Rattle.drill_file.specs.DrillFile.{recordsStart, afterLabel, wrongSize, wrongVersion, wrongFloor, wrongByte, wrongBytes, wrongLabel, wrongRecords, fileRefusal, headerOf, headerRefusal, labelOf};
 
 // What the header says: the refusal, or n, m, where the records start and how many there are.
 pub enum Header {
@@ -19,13 +18,6 @@ fn wide(x: u8) -> usize
     ensures { λ y. ⌜ y ≡ x ⌝ }
 {
     x as usize
-}
-
-// The number of two bytes, big-endian.
-fn pair(high: u8, low: u8) -> usize
-    ensures { λ y. ⌜ y ≡ high * 256 + low ⌝ }
-{
-    high as usize * 256 + low as usize
 }
 
 // The byte at a place, 0 past the end.
@@ -67,7 +59,7 @@ fn wrong_size(file: &[u8]) -> bool
     if 32806 < size {
         return true;
     }
-    pair(byte_at(file, 0), byte_at(file, 1)) != size - 2
+    base::be16(byte_at(file, 0), byte_at(file, 1)) as usize != size - 2
 }
 
 // Refusal 2.
@@ -161,7 +153,7 @@ fn file_refusal(file: &[u8]) -> u8
 // The header of a file of any bytes.
 pub fn read_header(file: &[u8]) -> Header
     ensures answer { λ y. ⌜ y ≡ headerOf (now (file .entry)) ⌝ }
-    ensures number { λ y. ⌜ refusalIn y ≡ fileRefusal (now (file .entry)) ⌝ }
+    ensures number { λ y. ⌜ headerRefusal y ≡ fileRefusal (now (file .entry)) ⌝ }
 {
     let refusal = file_refusal(file);
     if refusal != 0 {

@@ -1,3 +1,3 @@
 pub mod Row
-pub mod Runs
+pub mod WorkedRuns
 pub mod Table

@@ -6,8 +6,8 @@ use mathlib.Core.List.{List, [], _∷_}
 use Rattle.register.specs.declared.Register.{Register}
 use Rattle.register.specs.declared.ReadDone.{ReadDone}
 use Rattle.register.specs.declared.WriteDone.{WriteDone}
-use Rattle.floor.specs.declared.Phase.{Phase}
-use Rattle.floor.specs.declared.Outcome.{Outcome}
+use Rattle.attempts.specs.declared.State.{State}
+use Rattle.commands.specs.declared.Outcome.{Outcome}
 
 pub data Letter : Type 0 where
   A : Letter
@@ -25,7 +25,7 @@ pub data Letter : Type 0 where
 -- what the program drill prints for a station: "number, state, rank of its last attempt (0 if none), decided revision (0 if none)"
 pub record StationLine : Type 0 where
   pub number : ℕ
-  pub state : Phase
+  pub state : State
   pub rank : ℕ
   pub decided : ℕ
 
@@ -39,33 +39,33 @@ pub record Printed : Type 0 where
   pub refusal : ℕ
 
 -- What an example is about, at the types of the definitions that it is shown of.
-pub data Answer : Type 0 where
+pub data Shown : Type 0 where
   -- a size or a rank
-  number : ℕ → Answer
+  number : ℕ → Shown
   -- a box's read and its write, with the register after it
-  read : ReadDone → Answer
-  wrote : WriteDone → Answer
+  read : ReadDone → Shown
+  wrote : WriteDone → Shown
   -- of an attempt: its rank, the answers received to its reads, and what the delivery of the last of them said
-  gathered : ℕ → List (ℕ × ℕ) → Outcome → Answer
+  gathered : ℕ → List (ℕ × ℕ) → Outcome → Shown
   -- what each step of a run said
-  said : List Outcome → Answer
+  said : List Outcome → Shown
   -- the answers to an attempt's write, and what the registers hold, at boxes 0, 1, ..
-  taken : List Bool → Answer
-  held : List Register → Answer
+  taken : List Bool → Shown
+  held : List Register → Shown
   -- of a solo finish: the number of its steps, and what the last one said
-  drove : ℕ → Outcome → Answer
-  printed : Printed → Answer
+  drove : ℕ → Outcome → Shown
+  printed : Printed → Shown
 
 -- the letter, what the definitions give, and what document 01 expects
 pub record Row : Type 0 where
   pub letter : Letter
-  pub given : Answer
-  pub expected : Answer
+  pub given : Shown
+  pub expected : Shown
 
-abbrev pub Holds : Row → Type 0
+abbrev pub Holds : (x : Row) → Type 0
 Holds r = r .given ≡ r .expected
 
 -- the one claim
-abbrev pub AllHold : List Row → Type 0
+abbrev pub AllHold : (rows : List Row) → Type 0
 AllHold [] = Unit
 AllHold (r ∷ rs) = Holds r × AllHold rs

@@ -5,14 +5,15 @@ use mathlib.Core.List.{List, [], _∷_}
 use Rattle.base.specs.Numbers.{quorum, rankOf}
 use Rattle.register.specs.Register.{rmwRead, rmwWrite}
 use Rattle.register.specs.declared.Register.{Register}
-use Rattle.floor.specs.declared.Phase.the-variants as phase
-use Rattle.floor.specs.declared.Outcome.{Outcome}
-use Rattle.floor.specs.declared.Outcome.the-variants.{Begun, Served, Received, Aborted, WriteIssued, Decided, Refused}
-use Rattle.floor.specs.declared.Command.the-variants.{DeliverRead, Stop}
-use Rattle.examples.specs.Row.{Letter, A, B, C, D, E, F, G, H, I, J, K, Printed, Answer, number, read, wrote, gathered, said, taken, held, drove, printed, Row, AllHold}
-use Rattle.examples.specs.Runs.{floorAfter, saidAfter, gatheredBy, soloAfter, takenAt, heldOn, printedOf, runG, runH, runI, fileK}
+use Rattle.requests.specs.declared.Phase.the-variants.{Read}
+use Rattle.attempts.specs.declared.State.the-variants as state
+use Rattle.commands.specs.declared.Outcome.{Outcome}
+use Rattle.commands.specs.declared.Outcome.the-variants.{Begun, Served, Received, Aborted, WriteIssued, Decided, Refused}
+use Rattle.commands.specs.declared.Command.the-variants.{Deliver, Stop}
+use Rattle.examples.specs.Row.{Letter, A, B, C, D, E, F, G, H, I, J, K, Printed, Shown, number, read, wrote, gathered, said, taken, held, drove, printed, Row, AllHold}
+use Rattle.examples.specs.WorkedRuns.{floorAfter, saidAfter, gatheredBy, soloAfter, takenAt, heldOn, printedOf, runG, runH, runI, fileK}
 
-abbrev row : Letter → Answer → Answer → Row
+abbrev row : Letter → Shown → Shown → Row
 row l x y = record { letter = l; given = x; expected = y }
 
 -- a box's register: read rank, write rank, value
@@ -33,7 +34,7 @@ luff =
       label = 0x6C ∷ 0x75 ∷ 0x66 ∷ 0x66 ∷ [];
       boxes = 1;
       stations = 1;
-      lines = record { number = 0; state = phase.Decided 0; rank = 16; decided = 7 } ∷ [];
+      lines = record { number = 0; state = state.Decided 0; rank = 16; decided = 7 } ∷ [];
       accepted = 5;
       refusal = 0;
     }
@@ -57,9 +58,9 @@ table =
     -- "F: box (33, 16, 7), read 18: answer (16, 7), unchanged."
     ∷ row F (read (rmwRead (box 33 16 7) 18)) (read (record { register = box 33 16 7; rank = 16; value = 7 }))
     -- "G: n = 3, answers (0, 0) and (16, 7) to rank 33: it writes 7."
-    ∷ row G (gatheredBy 3 runG (DeliverRead 1 1) 1) (gathered 33 ((0, 0) ∷ (16, 7) ∷ []) (WriteIssued 7))
+    ∷ row G (gatheredBy 3 runG (Deliver Read 1 1) 1) (gathered 33 ((0, 0) ∷ (16, 7) ∷ []) (WriteIssued 7))
     -- "H: n = 3, two answers (0, 0) from two boxes: a majority."
-    ∷ row H (gatheredBy 3 runH (DeliverRead 0 1) 0) (gathered 16 ((0, 0) ∷ (0, 0) ∷ []) (WriteIssued 7))
+    ∷ row H (gatheredBy 3 runH (Deliver Read 0 1) 0) (gathered 16 ((0, 0) ∷ (0, 0) ∷ []) (WriteIssued 7))
     -- "I: n = 3. Attempt 0 (rank 16, 7) has read at boxes 0 and 1. Attempt 1 (rank 17, 9) reads and writes at 1 and 2 and decides
     -- 9. Attempt 0's write is taken at 0, not at 1: it aborts. Its write at 2, served after that, is not taken."
     ∷ row I (said (saidAfter 3 runI)) (said saidI)

@@ -9,15 +9,16 @@ use native.Mathlib.Omega.{arith}
 use lib.Dec.{eqb}
 use lib.ListN.{length}
 use borrow.Author.Tests.{eq-eqb, ne-eqb}
+use Rattle.base.specs.Bytes.{Bytes}
 use Rattle.base.proofs.Choices.{on-true, on-false, by-test}
 use Rattle.register.specs.Register.{rmwRead, takes, rmwWrite}
 use Rattle.register.proofs.RegisterLaws.{write-refused, write-answers}
 use Rattle.register.specs.declared.Register.{Register}
 use Rattle.register.specs.declared.ReadDone.{ReadDone}
 use Rattle.register.specs.declared.WriteDone.{WriteDone}
-use Rattle.firmware.specs.Bytes.{AllBytes}
-use Rattle.firmware.specs.Firmware.{Fits32, encode, decode, replyOf, readAnswer, recordAfterRead, replyAfterRead, writeAnswer, recordAfterWrite}
-use Rattle.firmware.proofs.RecordLaws.{decode-encode, decode-fits}
+use Rattle.firmware.specs.Firmware.{encode, decode, replyOf, readAnswer, recordAfterRead, replyAfterRead, writeAnswer, recordAfterWrite}
+use Rattle.firmware.specs.Claims.{Fits32}
+use Rattle.firmware.proofs.BoxRecordLaws.{decode-encode, encode-bytes, decode-fits}
 
 -- the tests of the refusals: a length that is this number, or another; of two tests one holds, or none
 this : (x k : ℕ) → x ≡ k → not (eqb x k) ≡ false
@@ -91,8 +92,18 @@ module _ (s : List ℕ) (r : ℕ) (p : List ℕ) where
         (e, (es′, ep′))
 
     -- the record decodes to the register that the routine by value gives
-    pub read-routine : length s ≡ 12 → AllBytes s → r < 2 ^ 32 → decode (recordAfterRead s r p) ≡ rmwRead (decode s) r .register
-    read-routine h b g = ap decode (sym read-record) ∙ decode-encode _ (read-fits (decode s) r (decode-fits s h b) g)
+    pub read-routine : decode (recordAfterRead s r p) ≡ rmwRead (decode s) r .register
+    read-routine = ap decode (sym read-record) ∙ decode-encode _
+
+  -- record and reply stay lists of bytes
+  module _ (b : Bytes s) where
+    pub read-bytes : r < 2 ^ 32 → Bytes (recordAfterRead s r p)
+    unfolding recordAfterRead
+    read-bytes g = by-test Bytes _ _ _ (λ _. encode-bytes _ (read-fits (decode s) r (decode-fits s b) g)) (λ _. b)
+
+    pub reply-bytes : Bytes p → Bytes (replyAfterRead s r p)
+    unfolding replyAfterRead replyOf rmwRead
+    reply-bytes c = let f = decode-fits s b in by-test Bytes _ _ _ (λ _. omega arith) (λ _. c)
 
 -- ---- a write of revision v to record s with rank r
 module _ (s : List ℕ) (r v : ℕ) where
@@ -138,9 +149,14 @@ module _ (s : List ℕ) (r v : ℕ) where
           (e, es ∙ ap (λ (y : WriteDone). encode (y .register)) made ∙ write-record e)
 
     -- the record decodes to the register that the routine by value gives, taken or not
-    pub write-routine : AllBytes s → r < 2 ^ 32 → v < 2 ^ 32 → decode (recordAfterWrite s r v) ≡ rmwWrite (decode s) r v .register
-    write-routine b g k = by-taken (rmwWrite (decode s) r v .taken) refl
+    pub write-routine : decode (recordAfterWrite s r v) ≡ rmwWrite (decode s) r v .register
+    write-routine = by-taken (rmwWrite (decode s) r v .taken) refl
       where
         by-taken : (t : Bool) → rmwWrite (decode s) r v .taken ≡ t → decode (recordAfterWrite s r v) ≡ rmwWrite (decode s) r v .register
-        by-taken true t = ap decode (sym (write-record (write-0 t))) ∙ decode-encode _ (write-fits (decode s) r (decode-fits s h b) g v k)
+        by-taken true t = ap decode (sym (write-record (write-0 t))) ∙ decode-encode _
         by-taken false t = ap decode (sym (write-kept 100 refl (write-100 t))) ∙ sym (ap (λ (y : WriteDone). y .register) (write-refused (decode s) r v (sym (write-answers (decode s) r v) ∙ t)))
+
+  -- the record stays a list of bytes
+  pub write-bytes : Bytes s → r < 2 ^ 32 → v < 2 ^ 32 → Bytes (recordAfterWrite s r v)
+  unfolding recordAfterWrite
+  write-bytes b g k = by-test Bytes _ _ _ (λ _. encode-bytes _ (write-fits (decode s) r (decode-fits s b) g v k)) (λ _. b)

@@ -1,3 +1,3 @@
-pub mod ByteLaws
-pub mod RecordLaws
+pub mod BoxRecordLaws
 pub mod CallLaws
+pub mod Claims

@@ -1,2 +1,2 @@
-pub mod Bytes
 pub mod Firmware
+pub mod Claims

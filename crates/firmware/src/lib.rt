@@ -4,29 +4,8 @@ use register::Register;
 use register::rmw_read;
 use register::rmw_write;
 ghost use mathlib.Core.Path.{_≡_};
-ghost use Prim.Native.Nat.{_+_, _≤_};
 ghost use lib.ListN.{length};
-ghost use Rattle.firmware.specs.Bytes.{wordAt, withWord};
 ghost use Rattle.firmware.specs.Firmware.{decode, encode, replyOf, readAnswer, recordAfterRead, replyAfterRead, writeAnswer, recordAfterWrite};
-
-// ---- Numbers of 32 bits, big-endian
-
-fn get_u32(s: &[u8], at: usize) -> u32
-    requires { ⌜ at + 4 ≤ length (now s) ⌝ }
-    ensures { λ y. ⌜ y ≡ wordAt (now (s .entry)) at ⌝ }
-{
-    base::be32(s[at], s[at + 1], s[at + 2], s[at + 3])
-}
-
-fn put_u32(s: &mut [u8], at: usize, x: u32)
-    requires { ⌜ at + 4 ≤ length (now s) ⌝ }
-    ensures { λ _. ⌜ now (s .exit) ≡ withWord (now (s .entry)) at x ⌝ }
-{
-    s[at] = (x / 16777216 % 256) as u8;
-    s[at + 1] = (x / 65536 % 256) as u8;
-    s[at + 2] = (x / 256 % 256) as u8;
-    s[at + 3] = (x % 256) as u8;
-}
 
 // ---- The record of 12 bytes and the reply of 8
 
@@ -34,9 +13,9 @@ fn load(s: &[u8]) -> Register
     requires { ⌜ length (now s) ≡ 12 ⌝ }
     ensures { λ y. ⌜ y ≡ decode (now (s .entry)) ⌝ }
 {
-    let read = get_u32(s, 0);
-    let write = get_u32(s, 4);
-    let value = get_u32(s, 8);
+    let read = base::get_u32(s, 0);
+    let write = base::get_u32(s, 4);
+    let value = base::get_u32(s, 8);
     Register { read, write, value }
 }
 
@@ -44,17 +23,17 @@ fn store(s: &mut [u8], x: Register)
     requires { ⌜ length (now s) ≡ 12 ⌝ }
     ensures { λ _. ⌜ now (s .exit) ≡ encode x ⌝ }
 {
-    put_u32(s, 0, x.read);
-    put_u32(s, 4, x.write);
-    put_u32(s, 8, x.value);
+    base::put_u32(s, 0, x.read);
+    base::put_u32(s, 4, x.write);
+    base::put_u32(s, 8, x.value);
 }
 
 fn store_reply(s: &mut [u8], rank: u32, value: u32)
     requires { ⌜ length (now s) ≡ 8 ⌝ }
     ensures { λ _. ⌜ now (s .exit) ≡ replyOf rank value ⌝ }
 {
-    put_u32(s, 0, rank);
-    put_u32(s, 4, value);
+    base::put_u32(s, 0, rank);
+    base::put_u32(s, 4, value);
 }
 
 // ---- The two calls, `bytes` being the record. A refusal, 16 or 17, is decided before the first store.

@@ -1,5 +1,5 @@
 -- What every step keeps: a refused one the floor itself; each one soundness, the sizes, and the lengths of the arrays.
-use Prim.Native.Nat.{ℕ, zero, suc, _<_}
+use Prim.Native.Nat.{ℕ, _<_}
 use native.Mathlib.Omega.{arith}
 use native.Mathlib.Nat.{ne-of-lt}
 use mathlib.Core.Path.{_≡_, refl, ap, _∙_}
@@ -11,31 +11,33 @@ use borrow.Author.Count.{below-more}
 use Rattle.base.specs.Numbers.{sizesRight}
 use Rattle.base.proofs.Choices.{by-test}
 use Rattle.register.specs.declared.StorageBox.{StorageBox}
-use Rattle.floor.specs.State.{box0, station0, row0, unusedRow, rowAt}
-use Rattle.floor.specs.Sound.{soundOf, Sound, Lengths}
-use Rattle.floor.specs.Floors.{emptyFloor, newFloorOf}
-use Rattle.floor.specs.Rows.{readsWaiting, newRow, writesWaiting}
-use Rattle.floor.specs.Rows as rows
-use Rattle.floor.specs.Commands.{commandOf}
-use Rattle.floor.specs.Refusals.{refusalIn}
-use Rattle.floor.specs.Effects.{begun, servedRead, servedWrite, deliveredRead, deliveredWrite, effectIn}
-use Rattle.floor.specs.Step.{isRefused, playOf, applyOf, stepOf}
-use Rattle.floor.specs.declared.WriteSlot.{WriteSlot}
-use Rattle.floor.specs.declared.Station.{Station}
-use Rattle.floor.specs.declared.Row.{Row}
+use Rattle.register.specs.Register.{box0}
+use Rattle.attempts.specs.Stations.{station0}
+use Rattle.attempts.specs.Rows.{row0, unusedRow, requestsOf, newRow, rowServed, rowHeard}
+use Rattle.floor.specs.Floors.{rowAt, emptyFloor, newFloorOf}
+use Rattle.floor.specs.Claims.{Sound, Lengths, SameSizes}
+use Rattle.attempts.specs.Rows as rows
+use Rattle.commands.specs.Commands.{commandOf}
+use Rattle.floor.specs.Refusals.{refusalOn}
+use Rattle.commands.specs.Outcomes.{isRefused}
+use Rattle.floor.specs.Step.{applyOf, stepOf}
+use Rattle.attempts.specs.declared.Station.{Station}
+use Rattle.attempts.specs.declared.Row.{Row}
 use Rattle.floor.specs.declared.Floor.{Floor}
-use Rattle.floor.specs.declared.Parts.{Parts}
-use Rattle.floor.specs.declared.Changed.{Changed}
 use Rattle.floor.specs.declared.Stepped.{Stepped}
 use Rattle.floor.specs.declared.NewFloor.{NewFloor}
-use Rattle.floor.specs.declared.Command.{Command}
-use Rattle.floor.specs.declared.Command.the-variants.{Begin, ServeRead, ServeWrite, DeliverRead, DeliverWrite, Stop, Leave, Malformed}
-use Rattle.base.proofs.SizeLaws.{Sizes, sizes-mean}
-use Rattle.floor.proofs.SoundLaws.{sound-means}
-use Rattle.floor.proofs.Standings.{clash}
-use Rattle.floor.proofs.Stores.{set-all, set-at}
-use Rattle.floor.proofs.Forms.{afterBegin}
-use Rattle.floor.proofs.View.{StepView, turned, began, read-served, write-served, read-heard, issued, write-heard, decided, aborted, stopped, left, apply-view, apply-refusal}
+use Rattle.commands.specs.declared.Command.{Command}
+use Rattle.commands.specs.declared.Command.the-variants.{Begin, Serve, Deliver, Stop, Leave, Malformed}
+use Rattle.base.specs.Claims.{Sizes}
+use Rattle.base.proofs.SizeLaws.{sizes-mean}
+use Rattle.requests.specs.Requests.{ofPhase}
+use Rattle.requests.specs.declared.Phase.{Phase}
+use Rattle.requests.specs.declared.Phase.the-variants.{Read, Write}
+use Rattle.requests.proofs.RequestLaws.{waiting-length, served-length}
+use Rattle.base.proofs.Stores.{set-all, set-at}
+use Rattle.register.specs.declared.Register.{Register}
+use Rattle.floor.specs.Effects.{afterBegin, readEndedOn, writeEndedOn, deliveredOn, effectOn}
+use Rattle.floor.proofs.StepCases.{StepCase, turned, began, served, heard, issued, decided, aborted, stopped, left, apply-case, apply-refusal}
 
 -- "Floor, record and reply stay unchanged": a refused step hands back the very floor
 pub refused-same : (f : Floor) (c : Command) → isRefused (applyOf f c .outcome) ≡ true → applyOf f c .floor ≡ f
@@ -45,25 +47,20 @@ pub step-refused-same : (f : Floor) (r : List ℕ) → isRefused (stepOf f r .ou
 unfolding stepOf
 step-refused-same f r = refused-same f (commandOf r)
 
--- a step is accepted on a sound floor only
-pub accepted-sound : (f : Floor) (c : Command) → isRefused (applyOf f c .outcome) ≡ false → Sound f
-unfolding applyOf
-accepted-sound f c = by-test (λ (s : Stepped). isRefused (s .outcome) ≡ false → Sound f) (soundOf f) _ _ (λ e _. sound-means f e) (λ _ e. clash refl e)
-
 -- the numbers of boxes and stations never change
-pub record SameSizes (f g : Floor) : Type 0 where
-  pub boxes : g .n ≡ f .n
-  pub stations : g .m ≡ f .m
+sizes : {f : Floor} {c : Command} {s : Stepped} → StepCase f c s → SameSizes f (s .floor)
+sizes (turned k t) = record { boxes = refl; stations = refl }
+sizes (began z d) = record { boxes = refl; stations = refl }
+sizes (served z d) = record { boxes = refl; stations = refl }
+sizes (heard z d q) = record { boxes = refl; stations = refl }
+sizes (issued z d r q) = record { boxes = refl; stations = refl }
+sizes (decided z d r q t) = record { boxes = refl; stations = refl }
+sizes (aborted z d r q t) = record { boxes = refl; stations = refl }
+sizes (stopped z d) = record { boxes = refl; stations = refl }
+sizes (left z d) = record { boxes = refl; stations = refl }
 
 pub apply-sizes : (f : Floor) (c : Command) → SameSizes f (applyOf f c .floor)
-unfolding applyOf playOf
-apply-sizes f c =
-    by-test P _ _ _
-    (λ _. by-test P _ _ _ (λ _. record { boxes = refl; stations = refl }) (λ _. record { boxes = refl; stations = refl }))
-    (λ _. record { boxes = refl; stations = refl })
-  where
-    P : Stepped → Type 0
-    P s = SameSizes f (s .floor)
+apply-sizes f c = sizes (apply-case f c)
 
 pub step-sizes : (f : Floor) (r : List ℕ) → SameSizes f (stepOf f r .floor)
 unfolding stepOf
@@ -97,15 +94,13 @@ begun-sound f s round v hs hu z = record {
       (set-at row0 (λ (w : Row). w .station < f .m) (f .rows) (f .used) (newRow (f .n) s round v) hs (z .station-least));
 }
 
-keeps : {f : Floor} {c : Command} {s : Stepped} → StepView f c s → Sound f → Sound (s .floor)
+keeps : {f : Floor} {c : Command} {s : Stepped} → StepCase f c s → Sound f → Sound (s .floor)
 unfolding rows.issued
 keeps (turned k t) y = y
 keeps {f} (began {s = s} {round = r} {v = v} z d) y = begun-sound f s r v (d .station) (d .row) y
-keeps {f} (read-served {a = a} z d) y = sound-on f _ refl refl refl (owner-kept (f .rows) a _ refl) y
-keeps {f} (write-served {a = a} z d) y = sound-on f _ refl refl refl (owner-kept (f .rows) a _ refl) y
-keeps {f} (read-heard {a = a} z d q) y = sound-on f _ refl refl refl (owner-kept (f .rows) a _ refl) y
+keeps {f} (served {a = a} z d) y = sound-on f _ refl refl refl (owner-kept (f .rows) a _ refl) y
+keeps {f} (heard {a = a} z d q) y = sound-on f _ refl refl refl (owner-kept (f .rows) a _ refl) y
 keeps {f} (issued {a = a} z d r q) y = sound-on f _ refl refl refl (owner-kept (f .rows) a _ refl) y
-keeps {f} (write-heard {a = a} z d q) y = sound-on f _ refl refl refl (owner-kept (f .rows) a _ refl) y
 keeps {f} (decided {a = a} z d r q t) y = sound-on f _ refl refl refl (owner-kept (f .rows) a _ refl) y
 keeps {f} (aborted {a = a} z d r q t) y = sound-on f _ refl refl refl (owner-kept (f .rows) a _ refl) y
 keeps {f} (stopped z d) y = sound-on f _ refl refl refl (λ a. refl) y
@@ -113,68 +108,90 @@ keeps {f} (left z d) y = sound-on f _ refl refl refl (λ a. refl) y
 
 -- a step keeps a sound floor sound, accepted or refused
 pub apply-keeps : (f : Floor) (c : Command) → Sound f → Sound (applyOf f c .floor)
-apply-keeps f c = keeps (apply-view f c)
+apply-keeps f c = keeps (apply-case f c)
 
 pub step-keeps : (f : Floor) (r : List ℕ) → Sound f → Sound (stepOf f r .floor)
 unfolding stepOf
 step-keeps f r = apply-keeps f (commandOf r)
 
-abbrev Said : Changed → Type 0
-Said y = isRefused (y .outcome) ≡ false
+ended-said : (p : Phase) (f : Floor) (a : ℕ) (w : Row) → isRefused (ofPhase p (readEndedOn f a w) (writeEndedOn f a w) .outcome) ≡ false
+unfolding writeEndedOn
+ended-said Read f a w = refl
+ended-said Write f a w = by-test (λ (x : Stepped). isRefused (x .outcome) ≡ false) _ _ _ (λ _. refl) (λ _. refl)
 
-pub effect-said : (p : Parts) (c : Command) → refusalIn p c ≡ 0 → isRefused (effectIn p c .outcome) ≡ false
-unfolding begun servedRead servedWrite deliveredRead deliveredWrite
-effect-said p (Begin s round v) e = refl
-effect-said p (ServeRead a b) e = refl
-effect-said p (ServeWrite a b) e = refl
-effect-said p (DeliverRead a b) e = by-test Said _ _ _ (λ _. by-test Said _ _ _ (λ _. refl) (λ _. refl)) (λ _. refl)
-effect-said p (DeliverWrite a b) e = by-test Said _ _ _ (λ _. by-test Said _ _ _ (λ _. by-test Said _ _ _ (λ _. refl) (λ _. refl)) (λ _. refl)) (λ _. refl)
-effect-said p (Stop b) e = refl
-effect-said p (Leave s) e = refl
-effect-said p Malformed e = absurd (omega (arith, e))
+pub effect-said : (f : Floor) (c : Command) → refusalOn f c ≡ 0 → isRefused (effectOn f c .outcome) ≡ false
+unfolding deliveredOn
+effect-said f (Begin s round v) e = refl
+effect-said f (Serve p a b) e = refl
+effect-said f (Deliver p a b) e = by-test P _ _ _ (λ _. by-test P _ _ _ (λ _. ended-said p f a _) (λ _. refl)) (λ _. refl)
+  where
+    P : Stepped → Type 0
+    P x = isRefused (x .outcome) ≡ false
+effect-said f (Stop b) e = refl
+effect-said f (Leave s) e = refl
+effect-said f Malformed e = absurd (omega (arith, e))
 
-pub reads-length : (k : ℕ) → length (readsWaiting k) ≡ 9
-unfolding readsWaiting
-reads-length zero = refl
-reads-length (suc k) = length-set (readsWaiting k) k _ ∙ reads-length k
+-- a row's own arrays have their lengths
+pub record RowLengths (w : Row) : Type 0 where
+  pub slots : (p : Phase) → length (requestsOf p w .slots) ≡ 9
+  pub answers : length (w .answers) ≡ 9
 
-pub writes-length : (l : List WriteSlot) (k : ℕ) → length (writesWaiting l k) ≡ length l
-unfolding writesWaiting
-writes-length l zero = refl
-writes-length l (suc k) = length-set (writesWaiting l k) k _ ∙ writes-length l k
+pub row-lengths : (f : Floor) → Lengths f → (a : ℕ) → a < 64 → RowLengths (rowAt f a)
+row-lengths f y a h = record { slots = λ p. y .slots p a h; answers = y .answers a h }
+
+served-lengths : (p : Phase) (w : Row) (g : Register) (b : ℕ) → RowLengths w → RowLengths (rowServed p w g b)
+served-lengths Read w g b y = record {
+  slots = λ q. elim q [ Read ↦ served-length (w .read) b true ∙ y .slots Read | Write ↦ y .slots Write ];
+  answers = length-set (w .answers) b _ ∙ y .answers;
+}
+served-lengths Write w g b y = record {
+  slots = λ q. elim q [ Read ↦ y .slots Read | Write ↦ served-length (w .write) b _ ∙ y .slots Write ];
+  answers = y .answers;
+}
+
+heard-lengths : (p : Phase) (w : Row) (b : ℕ) → RowLengths w → RowLengths (rowHeard p w b)
+heard-lengths Read w b y = record { slots = λ q. elim q [ Read ↦ y .slots Read | Write ↦ y .slots Write ]; answers = y .answers }
+heard-lengths Write w b y = record { slots = λ q. elim q [ Read ↦ y .slots Read | Write ↦ y .slots Write ]; answers = y .answers }
+
+issued-lengths : (w : Row) (v n : ℕ) → RowLengths w → RowLengths (rows.issued w v n)
+unfolding rows.issued
+issued-lengths w v n y = record { slots = λ q. elim q [ Read ↦ y .slots Read | Write ↦ waiting-length n ]; answers = y .answers }
+
+new-lengths-row : (n s round v : ℕ) → RowLengths (newRow n s round v)
+unfolding newRow
+new-lengths-row n s round v = record { slots = λ q. elim q [ Read ↦ waiting-length n | Write ↦ refl ]; answers = refl }
 
 -- a row stored whose own arrays have their lengths; boxes and stations of the same lengths
 lengths-on : (f g : Floor) (a : ℕ) (w : Row) → Lengths f → length (g .boxes) ≡ length (f .boxes) → length (g .stations) ≡ length (f .stations) → g .rows ≡ set (f .rows) a w
-    → (a < 64 → length (w .reads) ≡ 9) → (a < 64 → length (w .writes) ≡ 9) → Lengths g
-lengths-on f g a w y lb ls e r t = record {
+    → (a < 64 → RowLengths w) → Lengths g
+lengths-on f g a w y lb ls e r = record {
   boxes = lb ∙ y .boxes;
   stations = ls ∙ y .stations;
   rows = ap length e ∙ length-set (f .rows) a w ∙ y .rows;
-  reads = λ j h. rw e (set-all row0 (λ (i : ℕ) (x : Row). i < 64 → length (x .reads) ≡ 9) (f .rows) a w (y .reads) r j h);
-  writes = λ j h. rw e (set-all row0 (λ (i : ℕ) (x : Row). i < 64 → length (x .writes) ≡ 9) (f .rows) a w (y .writes) t j h);
+  slots = λ p j h. all j h .slots p;
+  answers = λ j h. all j h .answers;
 }
+  where
+    all : (j : ℕ) → j < 64 → RowLengths (rowAt g j)
+    all j h = rw e (set-all row0 (λ (i : ℕ) (x : Row). i < 64 → RowLengths x) (f .rows) a w (row-lengths f y) r j h)
 
-lengths : {f : Floor} {c : Command} {s : Stepped} → StepView f c s → Lengths f → Lengths (s .floor)
-unfolding rows.issued newRow
+lengths : {f : Floor} {c : Command} {s : Stepped} → StepCase f c s → Lengths f → Lengths (s .floor)
 lengths (turned k t) y = y
-lengths {f} (began {s = s} z d) y = lengths-on f _ (f .used) _ y refl (length-set (f .stations) s _) refl (λ _. reads-length (f .n)) (λ _. refl)
-lengths {f} (read-served {a = a} {b = b} z d) y =
-    lengths-on f _ a _ y (length-set (f .boxes) b _) refl refl (λ h. length-set (rowAt f a .reads) b _ ∙ y .reads a h) (y .writes a)
-lengths {f} (write-served {a = a} {b = b} z d) y =
-    lengths-on f _ a _ y (length-set (f .boxes) b _) refl refl (y .reads a) (λ h. length-set (rowAt f a .writes) b _ ∙ y .writes a h)
-lengths {f} (read-heard {a = a} z d q) y = lengths-on f _ a _ y refl refl refl (y .reads a) (y .writes a)
-lengths {f} (issued {a = a} z d r q) y =
-    lengths-on f _ a _ y refl (length-set (f .stations) (rowAt f a .station) _) refl (y .reads a) (λ h. writes-length (rowAt f a .writes) (f .n) ∙ y .writes a h)
-lengths {f} (write-heard {a = a} z d q) y = lengths-on f _ a _ y refl refl refl (y .reads a) (y .writes a)
-lengths {f} (decided {a = a} z d r q t) y = lengths-on f _ a _ y refl (length-set (f .stations) (rowAt f a .station) _) refl (y .reads a) (y .writes a)
-lengths {f} (aborted {a = a} z d r q t) y = lengths-on f _ a _ y refl (length-set (f .stations) (rowAt f a .station) _) refl (y .reads a) (y .writes a)
+lengths {f} (began {s = s} {round = r} {v = v} z d) y = lengths-on f _ (f .used) _ y refl (length-set (f .stations) s _) refl (λ _. new-lengths-row (f .n) s r v)
+lengths {f} (served {p = p} {a = a} {b = b} z d) y =
+    lengths-on f _ a _ y (length-set (f .boxes) b _) refl refl (λ h. served-lengths p (rowAt f a) _ b (row-lengths f y a h))
+lengths {f} (heard {p = p} {a = a} {b = b} z d q) y = lengths-on f _ a _ y refl refl refl (λ h. heard-lengths p (rowAt f a) b (row-lengths f y a h))
+lengths {f} (issued {a = a} {b = b} z d r q) y =
+    lengths-on f _ a _ y refl (length-set (f .stations) (rowAt f a .station) _) refl (λ h. issued-lengths _ _ (f .n) (heard-lengths Read (rowAt f a) b (row-lengths f y a h)))
+lengths {f} (decided {a = a} {b = b} z d r q t) y = lengths-on f _ a _ y refl (length-set (f .stations) (rowAt f a .station) _) refl (λ h. heard-lengths Write (rowAt f a) b (row-lengths f y a h))
+lengths {f} (aborted {a = a} {b = b} z d r q t) y = lengths-on f _ a _ y refl (length-set (f .stations) (rowAt f a .station) _) refl (λ h. heard-lengths Write (rowAt f a) b (row-lengths f y a h))
 lengths {f} (stopped {b = b} z d) y =
-    record { boxes = length-set (f .boxes) b _ ∙ y .boxes; stations = y .stations; rows = y .rows; reads = y .reads; writes = y .writes }
+    record { boxes = length-set (f .boxes) b _ ∙ y .boxes; stations = y .stations; rows = y .rows; slots = y .slots; answers = y .answers }
 lengths {f} (left {s = s} z d) y =
-    record { boxes = y .boxes; stations = length-set (f .stations) s _ ∙ y .stations; rows = y .rows; reads = y .reads; writes = y .writes }
+    record { boxes = y .boxes; stations = length-set (f .stations) s _ ∙ y .stations; rows = y .rows; slots = y .slots; answers = y .answers }
 
 pub apply-lengths : (f : Floor) (c : Command) → Lengths f → Lengths (applyOf f c .floor)
-apply-lengths f c = lengths (apply-view f c)
+apply-lengths f c = lengths (apply-case f c)
 
 pub step-lengths : (f : Floor) (r : List ℕ) → Lengths f → Lengths (stepOf f r .floor)
 unfolding stepOf
@@ -196,9 +213,13 @@ empty-lengths n m = record {
   boxes = refl;
   stations = refl;
   rows = refl;
-  reads = λ a h. ap (λ (w : Row). length (w .reads)) (getD-replicate 64 a unusedRow row0 h);
-  writes = λ a h. ap (λ (w : Row). length (w .writes)) (getD-replicate 64 a unusedRow row0 h);
+  slots = λ p a h. ap (λ (w : Row). length (requestsOf p w .slots)) (getD-replicate 64 a unusedRow row0 h) ∙ unused p;
+  answers = λ a h. ap (λ (w : Row). length (w .answers)) (getD-replicate 64 a unusedRow row0 h);
 }
+  where
+    unused : (p : Phase) → length (requestsOf p unusedRow .slots) ≡ 9
+    unused Read = refl
+    unused Write = refl
 
 one-each : Sizes 1 1
 one-each = record { box-least = omega arith; box-most = omega arith; station-least = omega arith; station-most = omega arith }

@@ -8,11 +8,12 @@ use lib.Dec.{eqb}
 use borrow.Author.Tests.{leb-false, lt-leb, eqb-false, ne-eqb}
 use Rattle.base.specs.Choice.{if_then_else_}
 use Rattle.base.proofs.Choices.{on-true, on-false, by-test, passed}
-use Rattle.floor.specs.State.{standingOf, isWaiting, isOnTheWay, isGone, isBusy}
-use Rattle.floor.specs.Refusals.{beginRefusal, serveRefusal, deliverRefusal, stopRefusal, leaveRefusal, refusalIn}
-use Rattle.floor.specs.declared.Parts.{Parts}
-use Rattle.floor.specs.declared.Command.{Command}
-use Rattle.floor.specs.declared.Command.the-variants.{Begin, ServeRead, ServeWrite, DeliverRead, DeliverWrite, Stop, Leave, Malformed}
+use Rattle.requests.specs.declared.Phase.{Phase}
+use Rattle.floor.specs.Refusals.{beginRefusal, serveRefusal, deliverRefusal, stopRefusal, leaveRefusal, refusalOn}
+use Rattle.floor.specs.Claims.{CanBegin, CanServe, CanDeliver, CanStop, CanLeave}
+use Rattle.floor.specs.declared.Floor.{Floor}
+use Rattle.commands.specs.declared.Command.{Command}
+use Rattle.commands.specs.declared.Command.the-variants.{Begin, Serve, Deliver, Stop, Leave, Malformed}
 
 -- the last test, which has to hold
 met : (t : Bool) (k : ℕ) → (if t then 0 else k) ≡ 0 → 0 < k → t ≡ true
@@ -27,38 +28,9 @@ positive (suc u) e = omega arith
 not-zero : (u : ℕ) → 0 < u → eqb u 0 ≡ false
 not-zero u h = ne-eqb u 0 (λ (e : u ≡ 0). omega arith)
 
-module _ (p : Parts) where
-  pub record MayBegin (s round v : ℕ) : Type 0 where
-    pub station : s < p .m
-    pub here : isGone (p .station .state) ≡ false
-    pub free : isBusy (p .station .state) ≡ false
-    pub offer : 0 < v
-    pub later : p .station .last < round
-    pub row : p .used < 64
-
-  -- of a read (false) or a write (true)
-  pub record MayServe (write : Bool) (a b : ℕ) : Type 0 where
-    pub used : a < p .used
-    pub box : b < p .n
-    pub answers : p .storage .stopped ≡ false
-    pub waits : isWaiting (standingOf write (p .row) b) ≡ true
-
-  pub record MayDeliver (write : Bool) (a b : ℕ) : Type 0 where
-    pub used : a < p .used
-    pub box : b < p .n
-    pub here : isGone (p .station .state) ≡ false
-    pub arrives : isOnTheWay (standingOf write (p .row) b) ≡ true
-
-  pub record MayStop (b : ℕ) : Type 0 where
-    pub box : b < p .n
-    pub answers : p .storage .stopped ≡ false
-
-  pub record MayLeave (s : ℕ) : Type 0 where
-    pub station : s < p .m
-    pub here : isGone (p .station .state) ≡ false
-
+module _ (f : Floor) where
   module _ (s round v : ℕ) where
-    pub begin-means : beginRefusal p s round v ≡ 0 → MayBegin s round v
+    pub begin-means : beginRefusal f s round v ≡ 0 → CanBegin f s round v
     unfolding beginRefusal
     begin-means e =
         let x₁ = passed _ _ _ e (omega arith) in
@@ -77,14 +49,14 @@ module _ (p : Parts) where
           row = leb-false _ _ (x₇ .0);
         }
 
-    pub begin-holds : MayBegin s round v → beginRefusal p s round v ≡ 0
+    pub begin-holds : CanBegin f s round v → beginRefusal f s round v ≡ 0
     unfolding beginRefusal
     begin-holds d =
         sym (on-false _ (lt-leb _ _ (d .station)) (on-false _ (d .here) (on-false _ (d .free) (on-false _ (not-zero v (d .offer))
         (on-false _ (not-zero round (omega (arith, d .later))) (on-false _ (lt-leb _ _ (d .later)) (on-false _ (lt-leb _ _ (d .row)) refl)))))))
 
-  module _ (write : Bool) (a b : ℕ) where
-    pub serve-means : serveRefusal p write a b ≡ 0 → MayServe write a b
+  module _ (p : Phase) (a b : ℕ) where
+    pub serve-means : serveRefusal f p a b ≡ 0 → CanServe f p a b
     unfolding serveRefusal
     serve-means e =
         let x₁ = passed _ _ _ e (omega arith) in
@@ -92,12 +64,12 @@ module _ (p : Parts) where
         let x₃ = passed _ _ _ (x₂ .1) (omega arith) in
         record { used = leb-false _ _ (x₁ .0); box = leb-false _ _ (x₂ .0); answers = x₃ .0; waits = met _ _ (x₃ .1) (omega arith) }
 
-    pub serve-holds : MayServe write a b → serveRefusal p write a b ≡ 0
+    pub serve-holds : CanServe f p a b → serveRefusal f p a b ≡ 0
     unfolding serveRefusal
     serve-holds d =
         sym (on-false _ (lt-leb _ _ (d .used)) (on-false _ (lt-leb _ _ (d .box)) (on-false _ (d .answers) (on-true _ (d .waits) refl))))
 
-    pub deliver-means : deliverRefusal p write a b ≡ 0 → MayDeliver write a b
+    pub deliver-means : deliverRefusal f p a b ≡ 0 → CanDeliver f p a b
     unfolding deliverRefusal
     deliver-means e =
         let x₁ = passed _ _ _ e (omega arith) in
@@ -105,30 +77,30 @@ module _ (p : Parts) where
         let x₃ = passed _ _ _ (x₂ .1) (omega arith) in
         record { used = leb-false _ _ (x₁ .0); box = leb-false _ _ (x₂ .0); here = x₃ .0; arrives = met _ _ (x₃ .1) (omega arith) }
 
-    pub deliver-holds : MayDeliver write a b → deliverRefusal p write a b ≡ 0
+    pub deliver-holds : CanDeliver f p a b → deliverRefusal f p a b ≡ 0
     unfolding deliverRefusal
     deliver-holds d =
         sym (on-false _ (lt-leb _ _ (d .used)) (on-false _ (lt-leb _ _ (d .box)) (on-false _ (d .here) (on-true _ (d .arrives) refl))))
 
-  pub stop-means : (b : ℕ) → stopRefusal p b ≡ 0 → MayStop b
+  pub stop-means : (b : ℕ) → stopRefusal f b ≡ 0 → CanStop f b
   unfolding stopRefusal
   stop-means b e =
       let x₁ = passed _ _ _ e (omega arith) in
       let x₂ = passed _ _ _ (x₁ .1) (omega arith) in
       record { box = leb-false _ _ (x₁ .0); answers = x₂ .0 }
 
-  pub stop-holds : (b : ℕ) → MayStop b → stopRefusal p b ≡ 0
+  pub stop-holds : (b : ℕ) → CanStop f b → stopRefusal f b ≡ 0
   unfolding stopRefusal
   stop-holds b d = sym (on-false _ (lt-leb _ _ (d .box)) (on-false _ (d .answers) refl))
 
-  pub leave-means : (s : ℕ) → leaveRefusal p s ≡ 0 → MayLeave s
+  pub leave-means : (s : ℕ) → leaveRefusal f s ≡ 0 → CanLeave f s
   unfolding leaveRefusal
   leave-means s e =
       let x₁ = passed _ _ _ e (omega arith) in
       let x₂ = passed _ _ _ (x₁ .1) (omega arith) in
       record { station = leb-false _ _ (x₁ .0); here = x₂ .0 }
 
-  pub leave-holds : (s : ℕ) → MayLeave s → leaveRefusal p s ≡ 0
+  pub leave-holds : (s : ℕ) → CanLeave f s → leaveRefusal f s ≡ 0
   unfolding leaveRefusal
   leave-holds s d = sym (on-false _ (lt-leb _ _ (d .station)) (on-false _ (d .here) refl))
 
@@ -142,29 +114,27 @@ or-else t k x l h r = by-test Numbered t k x (λ _. inr (l, h)) (λ _. r)
 finally : (t : Bool) (k : ℕ) → 7 ≤ k → k ≤ 14 → Numbered (if t then 0 else k)
 finally t k l h = by-test Numbered t 0 k (λ _. inl refl) (λ _. inr (l, h))
 
-module _ (p : Parts) (write : Bool) (a b : ℕ) where
-  serve-numbered : Numbered (serveRefusal p write a b)
+module _ (f : Floor) (p : Phase) (a b : ℕ) where
+  serve-numbered : Numbered (serveRefusal f p a b)
   unfolding serveRefusal
   serve-numbered =
       or-else _ _ _ (omega arith) (omega arith) (or-else _ _ _ (omega arith) (omega arith) (or-else _ _ _ (omega arith) (omega arith)
       (finally _ _ (omega arith) (omega arith))))
 
-  deliver-numbered : Numbered (deliverRefusal p write a b)
+  deliver-numbered : Numbered (deliverRefusal f p a b)
   unfolding deliverRefusal
   deliver-numbered =
       or-else _ _ _ (omega arith) (omega arith) (or-else _ _ _ (omega arith) (omega arith) (or-else _ _ _ (omega arith) (omega arith)
       (finally _ _ (omega arith) (omega arith))))
 
-pub refusal-numbered : (p : Parts) (c : Command) → Numbered (refusalIn p c)
+pub refusal-numbered : (f : Floor) (c : Command) → Numbered (refusalOn f c)
 unfolding beginRefusal stopRefusal leaveRefusal
-refusal-numbered p (Begin s round v) =
+refusal-numbered f (Begin s round v) =
     or-else _ _ _ (omega arith) (omega arith) (or-else _ _ _ (omega arith) (omega arith) (or-else _ _ _ (omega arith) (omega arith)
     (or-else _ _ _ (omega arith) (omega arith) (or-else _ _ _ (omega arith) (omega arith) (or-else _ _ _ (omega arith) (omega arith)
     (or-else _ _ _ (omega arith) (omega arith) (inl refl)))))))
-refusal-numbered p (ServeRead a b) = serve-numbered p false a b
-refusal-numbered p (ServeWrite a b) = serve-numbered p true a b
-refusal-numbered p (DeliverRead a b) = deliver-numbered p false a b
-refusal-numbered p (DeliverWrite a b) = deliver-numbered p true a b
-refusal-numbered p (Stop b) = or-else _ _ _ (omega arith) (omega arith) (or-else _ _ _ (omega arith) (omega arith) (inl refl))
-refusal-numbered p (Leave s) = or-else _ _ _ (omega arith) (omega arith) (or-else _ _ _ (omega arith) (omega arith) (inl refl))
-refusal-numbered p Malformed = inr (omega arith, omega arith)
+refusal-numbered f (Serve p a b) = serve-numbered f p a b
+refusal-numbered f (Deliver p a b) = deliver-numbered f p a b
+refusal-numbered f (Stop b) = or-else _ _ _ (omega arith) (omega arith) (or-else _ _ _ (omega arith) (omega arith) (inl refl))
+refusal-numbered f (Leave s) = or-else _ _ _ (omega arith) (omega arith) (or-else _ _ _ (omega arith) (omega arith) (inl refl))
+refusal-numbered f Malformed = inr (omega arith, omega arith)

@@ -1,153 +1,163 @@
--- The loop of `run`: one record more, by the way that its step takes.
-use Prim.Native.Nat.{ℕ, suc, _+_, _-_, _*_, _/_, _<_, _≤_}
+-- One turn of the loop: the run from a command on, by what its step said; and what the loop reads and stores.
+use Prim.Native.Nat.{ℕ, zero, suc, _+_, _-_, _*_, _<_}
+use mathlib.Core.Path.{_≡_, refl, sym, ap, ap₂, subst, _∙_}
+use mathlib.Core.Bool.{Bool, true, false}
+use mathlib.Core.List.{List, [], _∷_}
+use lib.Dec.{leb}
+use lib.ListN.{getD, set}
+use borrow.Author.Tests.{leb-false, lt-leb, le-leb}
 use native.Mathlib.Omega.{arith}
-use mathlib.Core.Path.{_≡_, refl, sym, ap, subst, _∙_}
-use mathlib.Core.List.{List}
-use mathlib.Core.Bool.{true, false}
-use lib.ListN.{length, getD, set}
-use lib.Seq.{take-all}
 use Rattle.base.specs.Choice.{if_then_else_}
-use Rattle.base.proofs.Choices.{on-true, on-false, by-test}
-use Rattle.floor.specs.State.{row0}
-use Rattle.floor.specs.Sound.{soundOf, Sound}
-use Rattle.floor.specs.Commands.{commandOf, attemptIn, boxIn, stationIn, placeIn}
-use Rattle.floor.specs.Refusals.{refusalIn}
-use Rattle.floor.specs.Effects.{effectIn}
-use Rattle.floor.specs.Step.{isRefused, rowPlace, boxPlace, stationPlace, look, put, refused, accepted, applyOf, stepOf}
 use Rattle.base.specs.Records.{recordAt, recordsFrom}
-use Rattle.base.proofs.RecordLaws.{record-whole}
-use Rattle.floor.specs.Runs.{runFrom}
-use Rattle.floor.proofs.Forms.{partsAt}
-use Rattle.floor.proofs.StepLaws.{apply-refused, apply-accepted}
-use Rattle.floor.proofs.Keeps.{apply-keeps, refused-same, effect-said}
+use Rattle.base.proofs.Cases.{clash}
+use Rattle.base.proofs.Choices.{on-true, on-false, both-false}
+use Rattle.commands.specs.Commands.{commandOf}
+use Rattle.commands.specs.Outcomes.{isRefused, isEnd}
+use Rattle.commands.specs.declared.Command.{Command}
+use Rattle.commands.specs.declared.Outcome.{Outcome}
+use Rattle.commands.specs.declared.Outcome.the-variants.{Refused}
+use Rattle.attempts.specs.Rows.{row0}
+use Rattle.parts.specs.Parts.{placeIn, attemptIn, boxIn, stationIn, changeIn}
+use Rattle.parts.specs.declared.Parts.{Parts}
+use Rattle.parts.specs.declared.Changed.{Changed}
+use Rattle.floor.specs.Step.{applyOf}
+use Rattle.floor.specs.Sound.{soundOf}
+use Rattle.floor.specs.Runs.{stopsAt, ranBy, runFrom}
+use Rattle.floor.specs.Claims.{Sound}
 use Rattle.floor.specs.declared.Floor.{Floor}
-use Rattle.floor.specs.declared.Parts.{Parts}
-use Rattle.floor.specs.declared.Changed.{Changed}
-use Rattle.floor.specs.declared.Command.{Command}
 use Rattle.floor.specs.declared.Stepped.{Stepped}
+use Rattle.floor.specs.declared.Until.{Until}
+use Rattle.floor.specs.declared.Until.the-variants.{Refusal, End}
 use Rattle.floor.specs.declared.Ran.{Ran}
-use Rattle.floor.specs.declared.Outcome.{Outcome}
-use Rattle.floor.specs.declared.Outcome.the-variants.{Refused}
+use Rattle.floor.proofs.Joins.{partsAt, rowPlace, boxPlace, stationPlace, look, put, Joined, change-join}
+use Rattle.floor.proofs.Keeps.{refused-same, apply-keeps}
+use Rattle.floor.proofs.StepLaws.{apply-unsound}
 
--- the rest of a run that starts with a record, by what that record's step says
-module _ (k n : ℕ) (o : Outcome) (f : Floor) (l : List ℕ) (at : ℕ) (x : Stepped) (e : stepOf f (recordAt l at) ≡ x) where
-  pub run-stops : isRefused (x .outcome) ≡ true → record { floor = f; accepted = n; last = x .outcome } ≡ runFrom n o f (recordsFrom (suc k) l at)
+-- a run ends behind a refused step
+pub refused-stops : (until : Until) (o : Outcome) → isRefused o ≡ true → stopsAt until o ≡ true
+unfolding stopsAt
+refused-stops Refusal o e = e
+refused-stops End o e = sym (on-true _ e refl)
+
+-- or, where so told, behind the end of an attempt
+pub goes-on-refusal : (until : Until) (o : Outcome) → isRefused o ≡ false → until ≡ Refusal → stopsAt until o ≡ false
+unfolding stopsAt
+goes-on-refusal until o e q = ap (λ (u : Until). stopsAt u o) q ∙ e
+
+pub goes-on-end : (until : Until) (o : Outcome) → isRefused o ≡ false → until ≡ End → stopsAt until o ≡ isEnd o
+unfolding stopsAt
+goes-on-end until o e q = ap (λ (u : Until). stopsAt u o) q ∙ sym (on-false _ e refl)
+
+-- with a record left, the step is the last where the run ends behind it
+some-left : (left : ℕ) (t : Bool) → (if leb (suc left) 0 then true else t) ≡ t
+some-left left t = sym (on-false true (lt-leb (suc left) 0 (omega arith)) refl)
+
+module _ (until : Until) (k : ℕ) (f : Floor) (c : Command) where
+  -- the step of c alone, refused or accepted
+  refused-ran : isRefused (applyOf f c .outcome) ≡ true → record { floor = f; accepted = k; outcome = applyOf f c .outcome } ≡ ranBy k (applyOf f c)
+  refused-ran t = ap₂ (λ (g : Floor) (n : ℕ). record { floor = g; accepted = n; outcome = applyOf f c .outcome }) (sym (refused-same f c t)) (on-true _ t refl)
+
+  accepted-ran : isRefused (applyOf f c .outcome) ≡ false
+      → record { floor = applyOf f c .floor; accepted = k + 1; outcome = applyOf f c .outcome } ≡ ranBy k (applyOf f c)
+  accepted-ran t = ap (λ (n : ℕ). record { floor = applyOf f c .floor; accepted = n; outcome = applyOf f c .outcome }) (on-false _ t refl)
+
+  -- it was the last, since the run ends behind it
+  stopped-run : (x : Ran) (rs : List (List ℕ)) → stopsAt until (applyOf f c .outcome) ≡ true → x ≡ ranBy k (applyOf f c) → x ≡ runFrom until k f c rs
+  unfolding runFrom
+  stopped-run x [] t e = e
+  stopped-run x (r ∷ rs) t e = on-true _ t e
+
+  run-refused : (rs : List (List ℕ)) → isRefused (applyOf f c .outcome) ≡ true
+      → record { floor = f; accepted = k; outcome = applyOf f c .outcome } ≡ runFrom until k f c rs
+  run-refused rs t = stopped-run _ rs (refused-stops until (applyOf f c .outcome) t) (refused-ran t)
+
+  -- or since no record is left; `left` records are left, the next of them at the place `at` of the bytes l
+  run-over : (left : ℕ) (l : List ℕ) (at : ℕ) → isRefused (applyOf f c .outcome) ≡ false → (if leb left 0 then true else stopsAt until (applyOf f c .outcome)) ≡ true
+      → record { floor = applyOf f c .floor; accepted = k + 1; outcome = applyOf f c .outcome } ≡ runFrom until k f c (recordsFrom left l at)
   unfolding runFrom recordsFrom
-  run-stops t = rw e (on-true _ t refl)
+  run-over zero l at t e = accepted-ran t
+  run-over (suc left) l at t e = stopped-run _ (recordAt l at ∷ recordsFrom left l (at + 8)) (sym (some-left left _) ∙ e) (accepted-ran t)
 
-  pub run-goes-on : isRefused (x .outcome) ≡ false → runFrom (n + 1) (x .outcome) (x .floor) (recordsFrom k l (at + 8)) ≡ runFrom n o f (recordsFrom (suc k) l at)
+  -- the run goes on
+  run-goes-on : (left : ℕ) (l : List ℕ) (at : ℕ) → (if leb left 0 then true else stopsAt until (applyOf f c .outcome)) ≡ false
+      → runFrom until (k + 1) (applyOf f c .floor) (commandOf (recordAt l at)) (recordsFrom (left - 1) l (at + 8)) ≡ runFrom until k f c (recordsFrom left l at)
   unfolding runFrom recordsFrom
-  run-goes-on t = rw e (on-false _ t refl)
+  run-goes-on zero l at e = clash (sym (on-true (stopsAt until (applyOf f c .outcome)) (le-leb 0 0 (omega arith)) refl)) e
+  run-goes-on (suc left) l at e = let one : suc left - 1 ≡ left = omega arith in rw one (on-false _ (sym (some-left left _) ∙ e) refl)
 
--- a run of no records, and one on a floor that is not sound
-pub run-none : (f : Floor) (l : List ℕ) (count : ℕ) → count ≡ 0 → record { floor = f; accepted = 0; last = Refused 0 } ≡ runFrom 0 (Refused 0) f (recordsFrom count l 0)
-unfolding runFrom recordsFrom
-run-none f l count e = subst (λ (m : ℕ). record { floor = f; accepted = 0; last = Refused 0 } ≡ runFrom 0 (Refused 0) f (recordsFrom m l 0)) (sym e) refl
-
-pub run-unsound : (f : Floor) (l : List ℕ) (count : ℕ) → (count ≡ 0 → ⊥) → soundOf f ≡ false → record { floor = f; accepted = 0; last = Refused 6 } ≡ runFrom 0 (Refused 0) f (recordsFrom count l 0)
-unfolding stepOf applyOf
-run-unsound f l count e t =
-    let h : count ≡ suc (count - 1) = omega (arith, e) in
-    subst (λ (m : ℕ). record { floor = f; accepted = 0; last = Refused 6 } ≡ runFrom 0 (Refused 0) f (recordsFrom m l 0)) (sym h)
-    (run-stops (count - 1) 0 (Refused 0) f l 0 (refused f 6) (sym (on-false _ t refl)) refl)
-
--- the end of a run
-pub run-ends : (f : Floor) (l : List ℕ) (count k at : ℕ) (o : Outcome) → count ≤ k → record { floor = f; accepted = k; last = o } ≡ runFrom k o f (recordsFrom (count - k) l at)
-unfolding runFrom recordsFrom
-run-ends f l count k at o h =
-    let e : count - k ≡ 0 = omega arith in
-    subst (λ (m : ℕ). record { floor = f; accepted = k; last = o } ≡ runFrom k o f (recordsFrom m l at)) (sym e) refl
+-- on a floor that is not sound
+pub run-unsound : (until : Until) (f : Floor) (c : Command) (rs : List (List ℕ)) → soundOf f ≡ false
+    → record { floor = f; accepted = 0; outcome = Refused 6 } ≡ runFrom until 0 f c rs
+run-unsound until f c rs e =
+    let q = ap (λ (x : Stepped). x .outcome) (apply-unsound f c e) in
+    ap (λ (o : Outcome). record { floor = f; accepted = 0; outcome = o }) (sym q) ∙ run-refused until 0 f c rs (ap isRefused q)
 
 -- the floor once the loop has stored parts at the places i, b and j
-abbrev pub storedAt : Floor → ℕ → ℕ → ℕ → Parts → Floor
-storedAt f i b j p = record { n = f .n; m = f .m; used = p .used; boxes = set (f .boxes) b (p .storage); stations = set (f .stations) j (p .station); rows = set (f .rows) i (p .row) }
+abbrev pub storedAt : (f : Floor) (i b j : ℕ) (x : Parts) → Floor
+storedAt f i b j x = record { n = f .n; m = f .m; used = x .used; boxes = set (f .boxes) b (x .storage); stations = set (f .stations) j (x .station); rows = set (f .rows) i (x .row) }
 
--- one turn of the loop: the record k, its command c, the places i, b and j that it names, and the parts p read there
-module _ (l : List ℕ) (count k : ℕ) (h : k < count) (o : Outcome) (f : Floor) (s : Sound f) (c : Command) (ec : c ≡ commandOf (recordAt l (8 * k))) (a b₀ t i b j : ℕ)
-    (ea : a ≡ attemptIn (f .used) c) (ei : i ≡ placeIn 64 a) (eb₀ : b₀ ≡ boxIn c) (eb : b ≡ placeIn 9 b₀) (et : t ≡ stationIn (getD (f .rows) i row0 .station) c) (ej : j ≡ placeIn 16 t)
-    (p : Parts) (ep : p ≡ partsAt f i b j) where
-  row-named : i ≡ rowPlace f c
-  row-named = ei ∙ ap (placeIn 64) ea
+-- What one turn of the loop did: on the sound floor f, for the command c, it read the places i, b and j, and made y of what stands there.
+pub record Turn (f : Floor) (c : Command) (i b j : ℕ) (y : Changed) : Type 0 where
+  pub sound : Sound f
+  pub row : i ≡ placeIn 64 (attemptIn (f .used) c)
+  pub storage : b ≡ placeIn 9 (boxIn c)
+  pub station : j ≡ placeIn 16 (stationIn (getD (f .rows) i row0 .station) c)
+  pub change : y ≡ changeIn (partsAt f i b j) c
 
-  box-named : b ≡ boxPlace c
-  box-named = eb ∙ ap (placeIn 9) eb₀
-
+module _ {f : Floor} {c : Command} {i b j : ℕ} {y : Changed} (t : Turn f c i b j y) where
   station-named : j ≡ stationPlace f c
-  station-named = ej ∙ ap (placeIn 16) (et ∙ ap (λ (x : ℕ). stationIn (getD (f .rows) x row0 .station) c) row-named)
+  station-named = t .station ∙ ap (λ (x : ℕ). placeIn 16 (stationIn (getD (f .rows) x row0 .station) c)) (t .row)
 
-  looked : p ≡ look f c
+  looked : partsAt f i b j ≡ look f c
   looked =
-      ep ∙ ap (λ (x : ℕ). partsAt f x b j) row-named ∙ ap (λ (x : ℕ). partsAt f (rowPlace f c) x j) box-named
+      ap (λ (x : ℕ). partsAt f x b j) (t .row) ∙ ap (λ (x : ℕ). partsAt f (rowPlace f c) x j) (t .storage)
       ∙ ap (λ (x : ℕ). partsAt f (rowPlace f c) (boxPlace c) x) station-named
 
-  stored : (q : Parts) → storedAt f i b j q ≡ put f c q
-  stored q =
-      ap (λ (x : ℕ). storedAt f x b j q) row-named ∙ ap (λ (x : ℕ). storedAt f (rowPlace f c) x j q) box-named
-      ∙ ap (λ (x : ℕ). storedAt f (rowPlace f c) (boxPlace c) x q) station-named
+  stored : (x : Parts) → storedAt f i b j x ≡ put f c x
+  stored x =
+      ap (λ (p : ℕ). storedAt f p b j x) (t .row) ∙ ap (λ (p : ℕ). storedAt f (rowPlace f c) p j x) (t .storage)
+      ∙ ap (λ (p : ℕ). storedAt f (rowPlace f c) (boxPlace c) p x) station-named
 
-  left : count - k ≡ suc (count - (k + 1))
-  left = omega arith
+  joined : Joined f (t .sound) c y
+  joined = subst (Joined f (t .sound) c) (sym (t .change ∙ ap (λ (x : Parts). changeIn x c) looked)) (change-join f (t .sound) c)
 
-  pub turn-boxes : p .n ≤ 9
-  turn-boxes = subst (λ (q : Parts). q .n ≤ 9) (sym ep) (s .box-most)
+  -- it is the step: what it says, and, where it was accepted, the floor that it leads to
+  turn-says : y .outcome ≡ applyOf f c .outcome
+  turn-says = joined .said
 
-  pub turn-refused : (e : ℕ) → e ≡ refusalIn p c → (e ≡ 0 → ⊥) → record { floor = f; accepted = k; last = Refused e } ≡ runFrom k o f (recordsFrom (count - k) l (8 * k))
-  unfolding stepOf
-  turn-refused e r z =
-      let r′ : e ≡ refusalIn (look f c) c = r ∙ ap (λ (q : Parts). refusalIn q c) looked in
-      rw left
-      (run-stops (count - (k + 1)) k o f l (8 * k) (refused f e)
-      (ap (applyOf f) (sym ec) ∙ apply-refused f c s (λ q. z (r′ ∙ q)) ∙ ap (refused f) (sym r′)) refl)
+  said-same : {o : Bool} → isRefused (y .outcome) ≡ o → isRefused (applyOf f c .outcome) ≡ o
+  said-same e = ap isRefused (sym turn-says) ∙ e
 
-  module _ (e : ℕ) (r : e ≡ refusalIn p c) (z : e ≡ 0) (y : Changed) (ey : y ≡ effectIn p c) where
-    none : refusalIn (look f c) c ≡ 0
-    none = sym (r ∙ ap (λ (q : Parts). refusalIn q c) looked) ∙ z
+  pub turn-refused : (until : Until) (k : ℕ) (rs : List (List ℕ)) → isRefused (y .outcome) ≡ true
+      → record { floor = f; accepted = k; outcome = y .outcome } ≡ runFrom until k f c rs
+  turn-refused until k rs e =
+      ap (λ (o : Outcome). record { floor = f; accepted = k; outcome = o }) turn-says ∙ run-refused until k f c rs (said-same e)
 
-    y-is : y ≡ effectIn (look f c) c
-    y-is = ey ∙ ap (λ (q : Parts). effectIn q c) looked
-
-    applied : applyOf f c ≡ record { floor = storedAt f i b j (y .parts); outcome = y .outcome }
-    applied =
-        apply-accepted f c s none ∙ ap (accepted f c) (sym y-is)
-        ∙ ap (λ (g : Floor). record { floor = g; outcome = y .outcome }) (sym (stored (y .parts)))
+  -- it was accepted; k steps were before it, and count - k records of the bytes l are left
+  module _ (e : isRefused (y .outcome) ≡ false) where
+    turn-leaves : storedAt f i b j (y .parts) ≡ applyOf f c .floor
+    turn-leaves = stored (y .parts) ∙ joined .left e
 
     pub turn-sound : Sound (storedAt f i b j (y .parts))
-    turn-sound = subst (λ (x : Stepped). Sound (x .floor)) applied (apply-keeps f c s)
+    turn-sound = subst Sound (sym turn-leaves) (apply-keeps f c (t .sound))
 
-    pub turn-on : runFrom (k + 1) (y .outcome) (storedAt f i b j (y .parts)) (recordsFrom (count - (k + 1)) l (8 * (k + 1))) ≡ runFrom k o f (recordsFrom (count - k) l (8 * k))
-    unfolding stepOf
-    turn-on =
-        let next : 8 * (k + 1) ≡ 8 * k + 8 = omega arith in
-        rw (left, next)
-        (run-goes-on (count - (k + 1)) k o f l (8 * k) (record { floor = storedAt f i b j (y .parts); outcome = y .outcome })
-        (ap (applyOf f) (sym ec) ∙ applied) (ap (λ (x : Changed). isRefused (x .outcome)) y-is ∙ effect-said (look f c) c none))
+    module _ (until : Until) (count k : ℕ) where
+      abbrev Over : (o : Outcome) → Bool
+      Over o = if leb (count - k) 0 then true else stopsAt until o
 
--- a run of one record is its step
-abbrev oneStep : Floor → List ℕ → Ran
-oneStep f r =
-    if isRefused (stepOf f r .outcome) then record { floor = f; accepted = 0; last = stepOf f r .outcome }
-    else record { floor = stepOf f r .floor; accepted = 1; last = stepOf f r .outcome }
+      pub turn-over : (l : List ℕ) → Over (y .outcome) ≡ true
+          → record { floor = storedAt f i b j (y .parts); accepted = k + 1; outcome = y .outcome } ≡ runFrom until k f c (recordsFrom (count - k) l (8 * k))
+      turn-over l q =
+          ap₂ (λ (g : Floor) (o : Outcome). record { floor = g; accepted = k + 1; outcome = o }) turn-leaves turn-says
+          ∙ run-over until k f c (count - k) l (8 * k) (said-same e) (subst (λ (o : Outcome). Over o ≡ true) turn-says q)
 
-one-step : (f : Floor) (l : List ℕ) → runFrom 0 (Refused 0) f (recordsFrom 1 l 0) ≡ oneStep f (recordAt l 0)
-unfolding runFrom recordsFrom
-one-step f l = refl
+      -- a record is left where the run goes on
+      pub turn-left : Over (y .outcome) ≡ false → k < count
+      turn-left q = let h = leb-false (count - k) 0 (both-false _ _ q .0) in omega arith
 
-record-all : (l : List ℕ) → length l ≡ 8 → recordAt l 0 ≡ l
-record-all l h = record-whole l 0 (omega arith) ∙ take-all 8 l (omega arith)
-
-step-refused : (f : Floor) (l : List ℕ) → isRefused (stepOf f l .outcome) ≡ true → f ≡ stepOf f l .floor
-unfolding stepOf
-step-refused f l t = sym (refused-same f (commandOf l) t)
-
-abbrev asStep : Ran → Stepped
-asStep x = record { floor = x .floor; outcome = x .last }
-
-one-says : (f : Floor) (l : List ℕ) → asStep (oneStep f l) ≡ stepOf f l
-one-says f l =
-    by-test (λ (x : Ran). asStep x ≡ stepOf f l) (isRefused (stepOf f l .outcome)) _ _
-    (λ t. ap (λ (g : Floor). record { floor = g; outcome = stepOf f l .outcome }) (step-refused f l t)) (λ _. refl)
-
-pub run-one : (f : Floor) (l : List ℕ) (x : Ran) → length l ≡ 8 → x ≡ runFrom 0 (Refused 0) f (recordsFrom (length l / 8) l 0) → asStep x ≡ stepOf f l
-run-one f l x h e =
-    let one : length l / 8 ≡ 1 = omega arith in
-    ap asStep (e ∙ ap (λ (k : ℕ). runFrom 0 (Refused 0) f (recordsFrom k l 0)) one ∙ one-step f l ∙ ap (oneStep f) (record-all l h)) ∙ one-says f l
+      pub turn-on : (l : List ℕ) → Over (y .outcome) ≡ false → (d : Command) → d ≡ commandOf (recordAt l (8 * k))
+          → runFrom until (k + 1) (storedAt f i b j (y .parts)) d (recordsFrom (count - (k + 1)) l (8 * (k + 1))) ≡ runFrom until k f c (recordsFrom (count - k) l (8 * k))
+      turn-on l q d ed =
+          let fewer : count - (k + 1) ≡ count - k - 1 = omega arith in
+          let next : 8 * (k + 1) ≡ 8 * k + 8 = omega arith in
+          rw (fewer, next, turn-leaves, ed) (run-goes-on until k f c (count - k) l (8 * k) (subst (λ (o : Outcome). Over o ≡ false) turn-says q))

@@ -6,16 +6,16 @@ use native.Mathlib.Numerals.{add-one}
 use mathlib.Core.Path.{_≡_, refl, sym}
 use mathlib.Core.Bool.{true}
 use mathlib.Core.List.{List}
-use lib.Dec.{ltb}
 use lib.ListN.{getD}
 use borrow.Author.Count.{below-more}
 use borrow.Author.Tests.{ltb-true, ltb-false, lt-ltb, le-ltb}
-use Rattle.base.proofs.SizeLaws.{Sizes, sizes-mean, sizes-hold}
-use Rattle.base.proofs.Choices.{on-true, on-false, by-test, both-true, first-false}
-use Rattle.floor.specs.State.{row0}
-use Rattle.floor.specs.Sound.{stationsBelow, soundOf, Sound}
-use Rattle.floor.specs.Commands.{placeIn}
-use Rattle.floor.specs.declared.Row.{Row}
+use Rattle.base.specs.Claims.{Sizes}
+use Rattle.base.proofs.SizeLaws.{sizes-mean, sizes-hold}
+use Rattle.base.proofs.Choices.{on-true, on-false, both-true, first-false}
+use Rattle.attempts.specs.Rows.{row0}
+use Rattle.floor.specs.Sound.{stationsBelow, soundOf}
+use Rattle.floor.specs.Claims.{Sound}
+use Rattle.attempts.specs.declared.Row.{Row}
 use Rattle.floor.specs.declared.Floor.{Floor}
 
 -- each of the first k rows has a station below m
@@ -56,13 +56,3 @@ unfolding soundOf
 sound-holds f z =
     sym (on-true _ (sizes-hold (f .n) (f .m) (sound-sizes f z))
     (on-false _ (le-ltb _ _ (z .rows-most)) (sym (all-below (f .rows) (f .m) (f .used) (z .stations)))))
-
--- a place is one of the array's
-pub place-below : (limit x : ℕ) → 0 < limit → placeIn limit x < limit
-unfolding placeIn
-place-below limit x h = by-test (λ (i : ℕ). i < limit) (ltb x limit) x 0 (λ e. ltb-true x limit e) (λ _. h)
-
--- a number that is a place of the array names it
-pub place-same : (limit x : ℕ) → x < limit → placeIn limit x ≡ x
-unfolding placeIn
-place-same limit x h = sym (on-true _ (lt-ltb x limit h) refl)

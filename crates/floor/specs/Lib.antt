@@ -1,9 +1,7 @@
-pub mod State
 pub mod Floors
 pub mod Sound
-pub mod Commands
-pub mod Rows
 pub mod Refusals
 pub mod Effects
 pub mod Step
 pub mod Runs
+pub mod Claims

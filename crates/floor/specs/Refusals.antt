@@ -1,64 +1,66 @@
 -- Document 01, "Turned back, in checking order": refusals 7 to 14 of a step on a sound floor, 0 where it is accepted.
 -- The first that applies is given.
 use Prim.Native.Nat.{ℕ}
-use mathlib.Core.Bool.{Bool, true, false}
 use lib.Dec.{eqb, leb}
 use Rattle.base.specs.Choice.{if_then_else_}
-use Rattle.floor.specs.State.{standingOf, isWaiting, isOnTheWay, isGone, isBusy}
-use Rattle.floor.specs.declared.Parts.{Parts}
-use Rattle.floor.specs.declared.Command.{Command}
-use Rattle.floor.specs.declared.Command.the-variants.{Begin, ServeRead, ServeWrite, DeliverRead, DeliverWrite, Stop, Leave, Malformed}
+use Rattle.requests.specs.Requests.{standingOf, isWaiting, isOnTheWay}
+use Rattle.requests.specs.declared.Phase.{Phase}
+use Rattle.commands.specs.declared.Command.{Command}
+use Rattle.commands.specs.declared.Command.the-variants.{Begin, Serve, Deliver, Stop, Leave, Malformed}
+use Rattle.attempts.specs.Stations.{isGone, isBusy}
+use Rattle.attempts.specs.Rows.{requestsOf}
+use Rattle.floor.specs.Floors.{boxAt, stationAt, rowAt, ownerAt}
+use Rattle.floor.specs.declared.Floor.{Floor}
 
 -- 8, 9, 10, 11 (revision 0, round 0, a round not above the station's last), 12
-unfoldable pub beginRefusal : Parts → ℕ → ℕ → ℕ → ℕ
-beginRefusal p s round v =
-    if leb (p .m) s then 8
-    else if isGone (p .station .state) then 9
-    else if isBusy (p .station .state) then 10
-    else if eqb v 0 then 11
+unfoldable pub beginRefusal : (f : Floor) (station round revision : ℕ) → ℕ
+beginRefusal f station round revision =
+    if leb (f .m) station then 8
+    else if isGone (stationAt f station .state) then 9
+    else if isBusy (stationAt f station .state) then 10
+    else if eqb revision 0 then 11
     else if eqb round 0 then 11
-    else if leb round (p .station .last) then 11
-    else if leb 64 (p .used) then 12
+    else if leb round (stationAt f station .last) then 11
+    else if leb 64 (f .used) then 12
     else 0
 
--- 8 (attempt, box), 13, 14, of a read (false) or a write (true)
-unfoldable pub serveRefusal : Parts → Bool → ℕ → ℕ → ℕ
-serveRefusal p write a b =
-    if leb (p .used) a then 8
-    else if leb (p .n) b then 8
-    else if p .storage .stopped then 13
-    else if isWaiting (standingOf write (p .row) b) then 0
+-- 8 (attempt, box), 13, 14, of a read or a write
+unfoldable pub serveRefusal : (f : Floor) (phase : Phase) (attempt box : ℕ) → ℕ
+serveRefusal f phase attempt box =
+    if leb (f .used) attempt then 8
+    else if leb (f .n) box then 8
+    else if boxAt f box .stopped then 13
+    else if isWaiting (standingOf (requestsOf phase (rowAt f attempt)) box) then 0
     else 14
 
 -- 8 (attempt, box), 9, 14
-unfoldable pub deliverRefusal : Parts → Bool → ℕ → ℕ → ℕ
-deliverRefusal p write a b =
-    if leb (p .used) a then 8
-    else if leb (p .n) b then 8
-    else if isGone (p .station .state) then 9
-    else if isOnTheWay (standingOf write (p .row) b) then 0
+unfoldable pub deliverRefusal : (f : Floor) (phase : Phase) (attempt box : ℕ) → ℕ
+deliverRefusal f phase attempt box =
+    if leb (f .used) attempt then 8
+    else if leb (f .n) box then 8
+    else if isGone (ownerAt f attempt .state) then 9
+    else if isOnTheWay (standingOf (requestsOf phase (rowAt f attempt)) box) then 0
     else 14
 
 -- 8, 13
-unfoldable pub stopRefusal : Parts → ℕ → ℕ
-stopRefusal p b =
-    if leb (p .n) b then 8
-    else if p .storage .stopped then 13
+unfoldable pub stopRefusal : (f : Floor) (box : ℕ) → ℕ
+stopRefusal f box =
+    if leb (f .n) box then 8
+    else if boxAt f box .stopped then 13
     else 0
 
 -- 8, 9
-unfoldable pub leaveRefusal : Parts → ℕ → ℕ
-leaveRefusal p s =
-    if leb (p .m) s then 8
-    else if isGone (p .station .state) then 9
+unfoldable pub leaveRefusal : (f : Floor) (station : ℕ) → ℕ
+leaveRefusal f station =
+    if leb (f .m) station then 8
+    else if isGone (stationAt f station .state) then 9
     else 0
 
-abbrev pub refusalIn : Parts → Command → ℕ
-refusalIn p (Begin s round v) = beginRefusal p s round v
-refusalIn p (ServeRead a b) = serveRefusal p false a b
-refusalIn p (ServeWrite a b) = serveRefusal p true a b
-refusalIn p (DeliverRead a b) = deliverRefusal p false a b
-refusalIn p (DeliverWrite a b) = deliverRefusal p true a b
-refusalIn p (Stop b) = stopRefusal p b
-refusalIn p (Leave s) = leaveRefusal p s
-refusalIn p Malformed = 7
+-- 7 before all
+abbrev pub refusalOn : (f : Floor) (c : Command) → ℕ
+refusalOn f (Begin s round v) = beginRefusal f s round v
+refusalOn f (Serve p a b) = serveRefusal f p a b
+refusalOn f (Deliver p a b) = deliverRefusal f p a b
+refusalOn f (Stop b) = stopRefusal f b
+refusalOn f (Leave s) = leaveRefusal f s
+refusalOn f Malformed = 7

@@ -1,37 +1,62 @@
--- The steps of a run of records, "each step given the floor that the last one left", up to the first that is refused.
-use Prim.Native.Nat.{ℕ, _+_, _<_, _≤_}
-use mathlib.Core.Path.{_≡_}
+-- The steps of a list of records, "each step given the floor that the last one left".
+use Prim.Native.Nat.{ℕ, zero, suc, _+_}
 use mathlib.Core.List.{List, [], _∷_}
-use mathlib.Core.Bool.{true, false}
+use mathlib.Core.Bool.{Bool, true}
+use lib.ListN.{length, getD}
 use Rattle.base.specs.Choice.{if_then_else_}
-use lib.ListN.{length, getD, take}
-use Rattle.floor.specs.Step.{stepOf, isRefused, numberOf}
+use Rattle.commands.specs.Commands.{commandOf}
+use Rattle.commands.specs.Outcomes.{numberOf, isRefused, isEnd}
+use Rattle.commands.specs.declared.Command.{Command}
+use Rattle.commands.specs.declared.Outcome.{Outcome}
+use Rattle.floor.specs.Step.{applyOf, stepOf}
 use Rattle.floor.specs.declared.Floor.{Floor}
+use Rattle.floor.specs.declared.Stepped.{Stepped}
+use Rattle.floor.specs.declared.Until.{Until}
+use Rattle.floor.specs.declared.Until.the-variants.{Refusal, End}
 use Rattle.floor.specs.declared.Ran.{Ran}
-use Rattle.floor.specs.declared.Outcome.{Outcome}
-use Rattle.floor.specs.declared.Outcome.the-variants.{Refused}
+use Rattle.floor.specs.declared.Played.{Played}
 
--- n steps were accepted and the last said o
-unfoldable pub runFrom : ℕ → Outcome → Floor → List (List ℕ) → Ran
-runFrom n o f [] = record { floor = f; accepted = n; last = o }
-runFrom n o f (r ∷ rs) =
-    if isRefused (stepOf f r .outcome) then record { floor = f; accepted = n; last = stepOf f r .outcome }
-    else runFrom (n + 1) (stepOf f r .outcome) (stepOf f r .floor) rs
+-- The list by positions, from 0; behind its end a record has no bytes, and its step is refused.
+module _ (f : Floor) (l : List (List ℕ)) where
+  -- "Each step is given the floor that the one before handed back, after a refused one too": the floor before the step at i
+  unfoldable pub floorAt : (i : ℕ) → Floor
+  floorAt zero = f
+  floorAt (suc i) = stepOf (floorAt i) (getD l i []) .floor
 
--- a run of no steps says `Refused 0`
-abbrev pub runOf : Floor → List (List ℕ) → Ran
-runOf f rs = runFrom 0 (Refused 0) f rs
+  -- what the step at i said
+  abbrev pub saidAt : (i : ℕ) → Outcome
+  saidAt i = stepOf (floorAt i) (getD l i []) .outcome
 
--- "Each step is given the floor that the one before handed back, after a refused one too": the floor after a list of records
-unfoldable pub after : Floor → List (List ℕ) → Floor
-after f [] = f
-after f (r ∷ rs) = after (stepOf f r .floor) rs
+  -- the floor that the list left
+  abbrev pub floorLeft : Floor
+  floorLeft = floorAt (length l)
 
--- What a run of records is: the first k of them were accepted and left its floor; where it stopped before their end, the next
--- record is the one that was refused, with what its step said.
-pub record Told (f : Floor) (rs : List (List ℕ)) (k : ℕ) (x : Ran) : Type 0 where
-  pub within : k ≤ length rs
-  pub left : x .floor ≡ after f (take k rs)
-  pub each : (i : ℕ) → i < k → isRefused (stepOf (after f (take i rs)) (getD rs i []) .outcome) ≡ false
-  pub stopped : k < length rs → (isRefused (x .last) ≡ true) × (x .last ≡ stepOf (x .floor) (getD rs k []) .outcome)
-  pub whole : k ≡ length rs → numberOf (x .last) ≡ 0
+-- A run ends behind a step that was refused, or also behind one that ended an attempt.
+unfoldable pub stopsAt : (until : Until) (o : Outcome) → Bool
+stopsAt Refusal o = isRefused o
+stopsAt End o = if isRefused o then true else isEnd o
+
+-- the step x after k accepted ones
+abbrev pub ranBy : (k : ℕ) (x : Stepped) → Ran
+ranBy k x = record { floor = x .floor; accepted = if isRefused (x .outcome) then k else k + 1; outcome = x .outcome }
+
+-- the command c and then the records rs, after k accepted steps
+unfoldable pub runFrom : (until : Until) (k : ℕ) (f : Floor) (c : Command) (rs : List (List ℕ)) → Ran
+runFrom until k f c [] = ranBy k (applyOf f c)
+runFrom until k f c (r ∷ rs) =
+    if stopsAt until (applyOf f c .outcome) then ranBy k (applyOf f c)
+    else runFrom until (k + 1) (applyOf f c .floor) (commandOf r) rs
+
+-- a run of one record and those behind it
+abbrev pub runOf : (until : Until) (f : Floor) (r : List ℕ) (rs : List (List ℕ)) → Ran
+runOf until f r rs = runFrom until 0 f (commandOf r) rs
+
+-- "It stops at the first refused record": the floor that the accepted steps left, how many they are, and the refusal, 0 if none
+unfoldable pub playedOn : (f : Floor) (rs : List (List ℕ)) → Played
+playedOn f [] = record { floor = f; accepted = 0; refusal = 0 }
+playedOn f (r ∷ rs) =
+    record {
+      floor = runOf Refusal f r rs .floor;
+      accepted = runOf Refusal f r rs .accepted;
+      refusal = numberOf (runOf Refusal f r rs .outcome);
+    }

@@ -14,17 +14,19 @@ use Rattle.base.specs.Choice.{if_then_else_}
 use Rattle.base.specs.Numbers.{sizesRight}
 use Rattle.base.proofs.RecordLaws.{records-drop}
 use Rattle.floor.specs.Floors.{emptyFloor, newFloorOf}
-use Rattle.floor.specs.Runs.{runOf, Told}
-use Rattle.floor.proofs.RunMeans.{run-told}
+use Rattle.floor.specs.Runs.{playedOn}
+use Rattle.floor.specs.Claims.{PlayedOver}
+use Rattle.floor.proofs.RunMeans.{run-played}
 use Rattle.drill_file.specs.DrillFile.{boxesOf, stationsOf, fileRefusal, headerOf, recordsOf}
-use Rattle.drill_file.proofs.FileLaws.{Values, refused-number, accepted-values}
+use Rattle.drill_file.specs.Claims.{Values}
+use Rattle.drill_file.proofs.FileLaws.{refused-number, accepted-values}
 use Rattle.drill_file.proofs.TestLaws.{accepted-passed}
-use Rattle.player.specs.Played.{ofRun, playedOf}
+use Rattle.player.specs.Play.{playedOf}
 use Rattle.floor.specs.declared.NewFloor.{NewFloor}
-use Rattle.floor.specs.declared.Ran.{Ran}
 use Rattle.drill_file.specs.declared.Header.{Header}
 use Rattle.drill_file.specs.declared.Header.the-variants.{Refused, Accepted}
-use Rattle.player.specs.declared.Played.{Played}
+use Rattle.player.specs.Claims.{PlayerClaims}
+use Rattle.floor.specs.declared.Played.{Played}
 
 -- the new floor of one box and one station
 ones-right : sizesRight 1 1 ≡ true
@@ -36,7 +38,7 @@ unfolding newFloorOf
 one-by-one = ap (λ (x : NewFloor). x .floor) (sym (on-true _ ones-right refl))
 
 -- an accepted file's run
-pub played-accepted : (s : List ℕ) → fileRefusal s ≡ 0 → playedOf s ≡ ofRun (runOf (newFloorOf (boxesOf s) (stationsOf s) .floor) (recordsOf s))
+pub played-accepted : (s : List ℕ) → fileRefusal s ≡ 0 → playedOf s ≡ playedOn (newFloorOf (boxesOf s) (stationsOf s) .floor) (recordsOf s)
 unfolding playedOf
 played-accepted s e = sym (on-true _ (eq-eqb _ _ e) refl)
 
@@ -70,17 +72,15 @@ module _ (s : List ℕ) (h : Header) (e : h ≡ headerOf s) where
         ∙ ap (recordsFrom ((length s - start) / 8) s) (add-zero start)
         ∙ ap (λ (k : ℕ). recordsFrom ((length s - k) / 8) s k) (values .starts)
 
-    pub header-played : (y : Played) → y ≡ ofRun (runOf (newFloorOf n m .floor) (recordsFrom (length (take (length s - start) (drop start s)) / 8) (take (length s - start) (drop start s)) 0)) → y ≡ playedOf s
+    pub header-played : (y : Played) → y ≡ playedOn (newFloorOf n m .floor) (recordsFrom (length (take (length s - start) (drop start s)) / 8) (take (length s - start) (drop start s)) 0) → y ≡ playedOf s
     header-played y ey =
-        ey ∙ ap (λ (l : List (List ℕ)). ofRun (runOf (newFloorOf n m .floor) l)) records
-        ∙ ap₂ (λ (a b : ℕ). ofRun (runOf (newFloorOf a b .floor) (recordsOf s))) (values .boxes) (values .stations)
+        ey ∙ ap (playedOn (newFloorOf n m .floor)) records
+        ∙ ap₂ (λ (a b : ℕ). playedOn (newFloorOf a b .floor) (recordsOf s)) (values .boxes) (values .stations)
         ∙ sym (played-accepted s (values .accepted))
 
--- What the player says of an accepted file: so many of its first records were accepted and left the floor; where it stopped before
--- their end, the next record is the one that was refused, and the refusal is its number.
-pub played-told : (s : List ℕ) → fileRefusal s ≡ 0
-    → (x : Ran) × (playedOf s ≡ ofRun x) × Told (newFloorOf (boxesOf s) (stationsOf s) .floor) (recordsOf s) (playedOf s .accepted) x
-played-told s e =
-    let f = newFloorOf (boxesOf s) (stationsOf s) .floor in
-    let p = played-accepted s e in
-    (runOf f (recordsOf s), p, subst (λ (k : ℕ). Told f (recordsOf s) k (runOf f (recordsOf s))) (sym (ap (λ (y : Played). y .accepted) p)) (run-told f (recordsOf s)))
+-- What the player says of an accepted file, and of a refused one.
+pub player-claims : PlayerClaims
+player-claims = record {
+  accepted = λ s e. subst (PlayedOver (newFloorOf (boxesOf s) (stationsOf s) .floor) (recordsOf s)) (sym (played-accepted s e)) (run-played _ (recordsOf s));
+  refused = played-refused;
+}

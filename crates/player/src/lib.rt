@@ -4,33 +4,18 @@ ghost use lib.ListN.{length};
 ghost use Prim.Native.Nat.{_/_};
 ghost use Rattle.base.specs.Records.{recordsFrom};
 ghost use Rattle.floor.specs.Floors.{newFloorOf};
-ghost use Rattle.floor.specs.Runs.{runOf};
-ghost use Rattle.player.specs.Played.{ofRun, playedOf, lastRank};
+ghost use Rattle.floor.specs.Runs.{playedOn};
+ghost use Rattle.player.specs.Play.{playedOf, lastRank};
 use drill_file::Header;
-use floor::Floor;
-
-// The floor after the accepted steps, how many they are, and the refusal, 0 if none. Steps are numbered from 0, so the step that
-// was turned back has the number `accepted`.
-pub struct Played {
-    pub floor: Floor,
-    pub accepted: usize,
-    pub refusal: u8,
-}
+use floor::Played;
 
 // Plays records on the new floor of n boxes and m stations.
 fn play_records(n: u8, m: u8, records: &[u8]) -> Played
-    ensures { λ r. ⌜ r ≡ ofRun (runOf (newFloorOf n m .floor) (recordsFrom (length (now (records .entry)) / 8) (now (records .entry)) 0)) ⌝ }
+    ensures { λ r. ⌜ r ≡ playedOn (newFloorOf n m .floor) (recordsFrom (length (now (records .entry)) / 8) (now (records .entry)) 0) ⌝ }
 {
     let made = floor::new_floor(n, m);
     let start = made.floor;
-    let ran = floor::run(start, records);
-    let floor = ran.floor;
-    let last = ran.last;
-    Played {
-        floor,
-        accepted: ran.accepted,
-        refusal: floor::number(last),
-    }
+    floor::run(start, records)
 }
 
 // Plays a file of any bytes.

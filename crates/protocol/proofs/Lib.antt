@@ -1,7 +1,6 @@
-pub mod Examples
+pub mod ExampleRuns
 pub mod Instances
 pub mod Invariance
-pub mod MaskLaws
-pub mod QuorumLaws
-pub mod Runs
 pub mod Theory
+pub mod TraceLaws
+pub mod VotingLaws

@@ -1,28 +1,8 @@
 -- The claims, proved.
 use Prim.Native.Nat.{ℕ}
-use Rattle.protocol.specs.Claims.{Quorums, Masks, Preorder, Invariance, Theory}
-use Rattle.protocol.proofs.QuorumLaws.{more-than-half, majority-of, majority-meet}
-use Rattle.protocol.proofs.MaskLaws.{bit-zero, bit-same, bit-other, count-bits, count-more, count-present, count-past, count-at-most, count-agree, setBit-fits, mask-majority}
+use Rattle.protocol.specs.Claims.{Preorder, Invariance, Theory}
 use Rattle.protocol.proofs.Invariance.{start-inv, transition-inv, chosen-kept, settled, agreement, returns-issued, returns-see, issue-offered}
-use Rattle.protocol.proofs.Runs.{step-transition, run-inv, run-known, issued-now, refused-outranked, outranked}
-
-pub quorums : Quorums
-quorums = record { more-than-half = more-than-half; enough = λ n P s. majority-of s; shared = λ n P Q. majority-meet }
-
-pub masks : Masks
-masks = record {
-  empty = bit-zero;
-  same = bit-same;
-  other = bit-other;
-  counted = count-bits;
-  more = count-more;
-  present = count-present;
-  past = count-past;
-  bounded = count-at-most;
-  agree = count-agree;
-  fits = setBit-fits;
-  enough = λ P m n. mask-majority m n;
-}
+use Rattle.protocol.proofs.TraceLaws.{step-transition, run-inv, run-known, issued-now, refused-outranked, outranked}
 
 pub invariance : {A : Type 0} (n : ℕ) (⊑ : A → A → Type 0) → Preorder ⊑ → Invariance n ⊑
 invariance n ⊑ o = record {
@@ -45,6 +25,6 @@ theory A N n ⊑ Offered o more x l k = let i = run-inv n ⊑ Offered (o .transi
   returned-sees = λ r w v q s u. returns-see n ⊑ i q;
   settled = settled n ⊑ i;
   agreement = agreement n ⊑ i (o .reflexive);
-  validity = i .offered;
+  validity = i .sound .offered;
   offered-before = λ y r v s. issue-offered n ⊑ i (issued-now n ⊑ Offered s .0);
 }

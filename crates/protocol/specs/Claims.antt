@@ -1,46 +1,10 @@
--- What is claimed; lemmas and theorems are the paper's (document 003). The proofs are `quorums`, `masks`, `invariance` and
--- `theory` in proofs/Theory.
-use mathlib.Core.Path.{_≡_}
-use mathlib.Core.Logic.{_↔_}
-use mathlib.Core.Bool.{Bool, true, false}
+-- What is claimed; lemmas and theorems are the paper's (document 003). The proofs are `invariance` and `theory` in
+-- proofs/Theory.
 use mathlib.Core.List.{List, _∷_, List·Memᴰ}
-use Prim.Native.Nat.{ℕ, _+_, _*_, _^_, _≤_, _<_}
-use Rattle.base.specs.Numbers.{quorum}
-use Rattle.protocol.specs.Mask.{bit, setBit, countBelow}
-use Rattle.protocol.specs.Quorum.{count, Majority}
+use Prim.Native.Nat.{ℕ, _≤_, _<_}
 use Rattle.protocol.specs.View.{View, Chosen, Returns, Transition, Start}
 use Rattle.protocol.specs.Invariant.{Inv}
 use Rattle.protocol.specs.Trace.{Box, Event, read, issued, took, refused, view, Outranked, Step, Run}
-
--- Sets of boxes.
-pub record Quorums : Type 1 where
-  -- q boxes are more than half of n, and fewer are not
-  pub more-than-half : (n k : ℕ) → quorum n ≤ k ↔ n < 2 * k
-  -- a set of q boxes, each of which has P, is a majority that has P
-  pub enough : (n : ℕ) (P : ℕ → Type 0) (s : ℕ → Bool) → quorum n ≤ count s n → ((b : ℕ) → b < n → s b ≡ true → P b) → Majority n P
-  -- two majorities of the same boxes share a box
-  pub shared : (n : ℕ) (P Q : ℕ → Type 0) → Majority n P → Majority n Q → (b : ℕ) × (b < n) × P b × Q b
-
--- Sets of boxes as masks.
-pub record Masks : Type 1 where
-  -- the mask 0 is the empty set
-  pub empty : (b : ℕ) → bit 0 b ≡ false
-  -- the box added is in the set, and the others are as before
-  pub same : (m b : ℕ) → bit (setBit m b) b ≡ true
-  pub other : (m b j : ℕ) → ¬ (j ≡ b) → bit (setBit m b) j ≡ bit m j
-  -- the ones of the n low digits are the boxes below n in the set
-  pub counted : (m n : ℕ) → countBelow m n ≡ count (bit m) n
-  -- a box below n that was not there is one more; one that was there, or is not below n, changes nothing
-  pub more : (m b n : ℕ) → b < n → bit m b ≡ false → countBelow (setBit m b) n ≡ countBelow m n + 1
-  pub present : (m b n : ℕ) → bit m b ≡ true → countBelow (setBit m b) n ≡ countBelow m n
-  pub past : (m b n : ℕ) → n ≤ b → countBelow (setBit m b) n ≡ countBelow m n
-  -- so no more than n are counted, and masks that agree below n count alike
-  pub bounded : (m n : ℕ) → countBelow m n ≤ n
-  pub agree : (m k n : ℕ) → ((b : ℕ) → b < n → bit m b ≡ bit k b) → countBelow m n ≡ countBelow k n
-  -- a mask of k digits stays one where a box below k is added: a u16 where k is 16
-  pub fits : (k m b : ℕ) → m < 2 ^ k → b < k → setBit m b < 2 ^ k
-  -- q ones below n, each of a box that has P, are a majority that has P
-  pub enough : (P : ℕ → Type 0) (m n : ℕ) → quorum n ≤ countBelow m n → ((b : ℕ) → b < n → bit m b ≡ true → P b) → Majority n P
 
 module _ {A : Type 0} (_⊑_ : A → A → Type 0) where
   infix 20 _⊑_
@@ -56,11 +20,11 @@ Persistent {A} {N} Offered = (e : Event A N) (l : List (Event A N)) (v : A) → 
 module _ {A : Type 0} (n : ℕ) (_⊑_ : A → A → Type 0) where
   infix 20 _⊑_
   -- A value chosen at a rank is settled: every value issued at a higher rank, earlier or later, follows it.
-  abbrev pub Settled : View A → Type 0
+  abbrev pub Settled : (σ : View A) → Type 0
   Settled σ = (s r : ℕ) (u v : A) → Chosen n σ s u → σ .Issued r v → s < r → u ⊑ v
 
   -- Of two chosen values the one of the higher rank follows the other.
-  abbrev pub Agreement : View A → Type 0
+  abbrev pub Agreement : (σ : View A) → Type 0
   Agreement σ = (s r : ℕ) (u v : A) → Chosen n σ s u → Chosen n σ r v → s ≤ r → u ⊑ v
 
   -- The invariant: the start has it, each step keeps it, and what is chosen is then settled.

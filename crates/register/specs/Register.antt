@@ -1,32 +1,42 @@
--- Document 01, "The box routine (Figure 3)": one ranked register, its read and its write.
+-- Document 01, "The box routine (Figure 3)": one ranked register, its read and its write; and the box that keeps it.
 use Prim.Native.Nat.{ℕ, max}
 use mathlib.Core.Bool.{Bool, true, false}
 use lib.Dec.{eqb, leb, ltb}
 use Rattle.base.specs.Choice.{if_then_else_}
 use Rattle.register.specs.declared.Register.{Register}
+use Rattle.register.specs.declared.StorageBox.{StorageBox}
 use Rattle.register.specs.declared.ReadDone.{ReadDone}
 use Rattle.register.specs.declared.WriteDone.{WriteDone}
 
+-- "A box keeps a read rank, a write rank and a value, 32 bits each, all 0 at first, and whether it has stopped." It is also what a
+-- read past the end of an array gives by the language's own rule.
+abbrev pub box0 : StorageBox
+box0 = record { register = record { read = 0; write = 0; value = 0 }; stopped = false }
+
+-- the box x with another register
+abbrev pub withRegister : (x : StorageBox) (register : Register) → StorageBox
+withRegister x register = record { register = register; stopped = x .stopped }
+
 -- "Read with rank r: the read rank becomes the larger of itself and r. The answer is the write rank and the value." (rmw-read)
-unfoldable pub rmwRead : Register → ℕ → ReadDone
-rmwRead x r =
+unfoldable pub rmwRead : (x : Register) (rank : ℕ) → ReadDone
+rmwRead x rank =
     record {
-      register = record { read = max (x .read) r; write = x .write; value = x .value };
+      register = record { read = max (x .read) rank; write = x .write; value = x .value };
       rank = x .write;
       value = x .value;
     }
 
 -- "if read rank ≤ r and write rank < r"
-unfoldable pub takes : Register → ℕ → Bool
-takes x r = if leb (x .read) r then ltb (x .write) r else false
+unfoldable pub takes : (x : Register) (rank : ℕ) → Bool
+takes x rank = if leb (x .read) rank then ltb (x .write) rank else false
 
 -- "Write with rank r, revision v: if read rank ≤ r and write rank < r, the write rank becomes r, the value v, and the answer is
 -- "taken". Otherwise nothing changes and the answer is "not taken". A write never changes the read rank." (rmw-write)
-unfoldable pub rmwWrite : Register → ℕ → ℕ → WriteDone
-rmwWrite x r v =
-    if takes x r then record { register = record { read = x .read; write = r; value = v }; taken = true }
+unfoldable pub rmwWrite : (x : Register) (rank revision : ℕ) → WriteDone
+rmwWrite x rank revision =
+    if takes x rank then record { register = record { read = x .read; write = rank; value = revision }; taken = true }
     else record { register = x; taken = false }
 
 -- "A box holds nothing while its value is 0": the paper's undefined value. The one place that says so.
-abbrev pub holdsNothing : ℕ → Bool
+abbrev pub holdsNothing : (value : ℕ) → Bool
 holdsNothing value = eqb value 0

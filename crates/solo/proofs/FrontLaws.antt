@@ -7,13 +7,15 @@ use lib.ListN.{length}
 use borrow.Author.Tests.{leb-false, lt-leb, ltb-false, le-ltb, eq-eqb, ne-eqb}
 use Rattle.base.specs.Numbers.{quorum}
 use Rattle.base.proofs.Choices.{on-true, on-false, by-test, passed}
-use Rattle.floor.specs.State.{stationAt, isGone, isBusy}
+use Rattle.attempts.specs.Stations.{isGone, isBusy}
+use Rattle.floor.specs.Floors.{stationAt}
 use Rattle.floor.specs.Sound.{soundOf}
-use Rattle.floor.proofs.RefusalLaws.{positive}
+use Rattle.floor.specs.Runs.{runOf}
 use Rattle.floor.specs.declared.Floor.{Floor}
-use Rattle.solo.specs.Plan.{highestBegun, roundAbove, roundOf, answering, planOf}
-use Rattle.solo.specs.Drive.{driveOf}
-use Rattle.solo.specs.Solo.{frontRefusal, soloRefusal, turnedBack, soloOf}
+use Rattle.floor.specs.declared.Until.the-variants.{End}
+use Rattle.floor.proofs.RefusalLaws.{positive}
+use Rattle.solo.specs.Plan.{highestBegun, roundAbove, roundOf, answering, beginOf, exchangesOf}
+use Rattle.solo.specs.Solo.{frontRefusal, soloRefusal, turnedAway, ofRun, soloOf}
 use Rattle.solo.specs.declared.Solo.{Solo}
 
 -- no refusal from 8 on applies
@@ -56,11 +58,11 @@ module _ (f : Floor) (s v round : ℕ) where
 
 module _ (f : Floor) (s v : ℕ) where
   -- "a refused solo finish takes 0 steps", and leaves the floor
-  pub solo-refused : ¬ (soloRefusal f s v ≡ 0) → soloOf f s v ≡ turnedBack f (soloRefusal f s v)
+  pub solo-refused : ¬ (soloRefusal f s v ≡ 0) → soloOf f s v ≡ turnedAway f (soloRefusal f s v)
   unfolding soloOf
   solo-refused e = sym (on-false _ (ne-eqb _ _ e) refl)
 
-  pub solo-driven : soloRefusal f s v ≡ 0 → soloOf f s v ≡ driveOf f (planOf f s v)
+  pub solo-driven : soloRefusal f s v ≡ 0 → soloOf f s v ≡ ofRun (runOf End f (beginOf f s v) (exchangesOf f))
   unfolding soloOf
   solo-driven e = sym (on-true _ (eq-eqb _ _ e) refl)
 
@@ -78,7 +80,7 @@ module _ (f : Floor) (s v : ℕ) where
   refusal-zero = by-test (λ (k : ℕ). k ≡ 0 → frontRefusal f s v (roundOf f s) ≡ 0) (soundOf f) _ _ (λ _ e. e) (λ _ e. absurd (omega (arith, e)))
 
 -- the code's three ends: the floor is not sound; a later refusal applies; none does
-pub ends-unsound : (f : Floor) (s v : ℕ) (r : Solo) → soundOf f ≡ false → r ≡ turnedBack f 6 → r ≡ soloOf f s v
+pub ends-unsound : (f : Floor) (s v : ℕ) (r : Solo) → soundOf f ≡ false → r ≡ turnedAway f 6 → r ≡ soloOf f s v
 ends-unsound f s v r z h =
     let k = refusal-unsound f s v z in
     h ∙ rw k at (sym (solo-refused f s v (λ (e : soloRefusal f s v ≡ 0). omega (arith, k))))
@@ -90,8 +92,8 @@ module _ (f : Floor) (s v h round k : ℕ) (r : Solo) (z : soundOf f ≡ true) (
   first : k ≡ soloRefusal f s v
   first = ek ∙ rw picked (sym (refusal-sound f s v z))
 
-  pub ends-refused : ¬ (k ≡ 0) → r ≡ turnedBack f k → r ≡ soloOf f s v
+  pub ends-refused : ¬ (k ≡ 0) → r ≡ turnedAway f k → r ≡ soloOf f s v
   ends-refused n e = e ∙ rw first (sym (solo-refused f s v (λ (o : soloRefusal f s v ≡ 0). n (first ∙ o))))
 
-  pub ends-driven : k ≡ 0 → r ≡ driveOf f (planOf f s v) → r ≡ soloOf f s v
+  pub ends-driven : k ≡ 0 → r ≡ ofRun (runOf End f (beginOf f s v) (exchangesOf f)) → r ≡ soloOf f s v
   ends-driven o e = e ∙ sym (solo-driven f s v (sym first ∙ o))

@@ -1,42 +1,45 @@
 -- A new floor is lawful, and every step keeps a lawful floor lawful.
-use Prim.Native.Nat.{ℕ, _+_, _≤_}
+use Prim.Native.Nat.{ℕ, zero, suc, _+_, _≤_}
 use native.Mathlib.Omega.{arith}
 use mathlib.Core.Path.{_≡_, refl, ap, subst, _∙_}
 use mathlib.Core.Logic.{inl, inr}
-use mathlib.Core.List.{List, [], _∷_}
-use lib.ListN.{set}
+use mathlib.Core.List.{List, []}
+use lib.ListN.{getD, set}
 use lib.Seq.{getD-set-same}
 use Rattle.base.specs.Numbers.{sizesRight, rankOf}
 use Rattle.base.proofs.Choices.{by-test}
-use Rattle.floor.specs.State.{box0, station0, row0}
+use Rattle.register.specs.Register.{box0}
+use Rattle.attempts.specs.Stations.{station0}
+use Rattle.attempts.specs.Rows.{row0, newRow}
 use Rattle.floor.specs.Floors.{emptyFloor, newFloorOf}
-use Rattle.floor.specs.Rows.{newRow}
-use Rattle.floor.specs.Commands.{commandOf}
-use Rattle.floor.specs.Step.{isRefused, applyOf, stepOf}
-use Rattle.floor.proofs.Standings.{clash}
-use Rattle.floor.proofs.Stores.{getD-same}
-use Rattle.base.proofs.SizeLaws.{Sizes, sizes-mean}
-use Rattle.floor.proofs.View.{StepView, turned, began, apply-view}
-use Rattle.floor.specs.Sound.{Lengths}
+use Rattle.commands.specs.Commands.{commandOf}
+use Rattle.commands.specs.Outcomes.{isRefused}
+use Rattle.floor.specs.Step.{applyOf, stepOf}
+use Rattle.floor.specs.Runs.{floorAt}
+use Rattle.base.proofs.Cases.{clash}
+use Rattle.base.proofs.Stores.{getD-same}
+use Rattle.base.specs.Claims.{Sizes}
+use Rattle.base.proofs.SizeLaws.{sizes-mean}
+use Rattle.floor.proofs.StepCases.{StepCase, turned, began, apply-case}
+use Rattle.floor.specs.Claims.{Lengths}
 use Rattle.floor.proofs.Keeps.{apply-keeps, apply-lengths, empty-sound, empty-lengths}
 use Rattle.floor.proofs.BoxLaws.{box-grown}
 use Rattle.floor.proofs.RowLaws.{apply-used, row-same}
 use Rattle.floor.proofs.StationLaws.{last-from}
-use Rattle.floor.specs.declared.Row.{Row}
-use Rattle.floor.specs.declared.Station.{Station}
+use Rattle.attempts.specs.declared.Row.{Row}
+use Rattle.attempts.specs.declared.Station.{Station}
 use Rattle.floor.specs.declared.Floor.{Floor}
 use Rattle.floor.specs.declared.NewFloor.{NewFloor}
 use Rattle.floor.specs.declared.Stepped.{Stepped}
-use Rattle.floor.specs.declared.Outcome.the-variants.{Begun}
-use Rattle.floor.specs.declared.Command.{Command}
-use Rattle.floor.specs.declared.Command.the-variants.{Begin}
-use Rattle.floor.specs.Runs.{after}
+use Rattle.commands.specs.declared.Outcome.the-variants.{Begun}
+use Rattle.commands.specs.declared.Command.{Command}
+use Rattle.commands.specs.declared.Command.the-variants.{Begin}
 use Rattle.solo.specs.Plan.{highestBegun}
-use Rattle.solo.specs.Progress.{Lawful}
+use Rattle.solo.specs.Claims.{Lawful}
 use Rattle.solo.proofs.RoundLaws.{highest-each, highest-most}
 
 -- the rank begun is that of the new row
-begun-ranked : {f : Floor} {s round v : ℕ} {x : Stepped} → StepView f (Begin s round v) x → Lengths f → x .outcome ≡ Begun (f .used) → rankOf round s ≤ highestBegun (x .floor)
+begun-ranked : {f : Floor} {s round v : ℕ} {x : Stepped} → StepCase f (Begin s round v) x → Lengths f → x .outcome ≡ Begun (f .used) → rankOf round s ≤ highestBegun (x .floor)
 unfolding newRow
 begun-ranked (turned k t) l e = clash refl (ap isRefused e)
 begun-ranked {f} {s} {round} {v} (began z d) l e =
@@ -70,7 +73,7 @@ module _ (f : Floor) (c : Command) where
         | inl z ↦ inl (e ∙ z)
         | inr h ↦ inr (omega (arith, e, h, highest-rises))
       ]
-      | inr b ↦ inr (begun-ranked (subst (λ (x : Command). StepView f x (applyOf f c)) (b .command) (apply-view f c)) (y .lengths) (b .outcome))
+      | inr b ↦ inr (begun-ranked (subst (λ (x : Command). StepCase f x (applyOf f c)) (b .command) (apply-case f c)) (y .lengths) (b .outcome))
     ];
   }
 
@@ -78,11 +81,11 @@ pub step-lawful : (f : Floor) (r : List ℕ) → Lawful f → Lawful (stepOf f r
 unfolding stepOf
 step-lawful f r = apply-lawful f (commandOf r)
 
--- after any list of steps, refused ones too
-pub after-lawful : (rs : List (List ℕ)) (f : Floor) → Lawful f → Lawful (after f rs)
-unfolding after
-after-lawful [] f y = y
-after-lawful (r ∷ rs) f y = after-lawful rs (stepOf f r .floor) (step-lawful f r y)
+-- after any steps of a list, refused ones too
+pub after-lawful : (f : Floor) (l : List (List ℕ)) (i : ℕ) → Lawful f → Lawful (floorAt f l i)
+unfolding floorAt
+after-lawful f l zero y = y
+after-lawful f l (suc i) y = step-lawful (floorAt f l i) (getD l i []) (after-lawful f l i y)
 
 empty-lawful : (n m : ℕ) → Sizes n m → Lawful (emptyFloor n m)
 empty-lawful n m z = record {

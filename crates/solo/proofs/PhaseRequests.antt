@@ -4,12 +4,13 @@ use Prim.Native.Nat.{ℕ, _+_, _≤_, _<_}
 use native.Mathlib.Omega.{arith}
 use mathlib.Core.Path.{_≡_, ap, subst, _∙_}
 use mathlib.Core.Bool.{true, false}
-use Rattle.protocol.specs.Mask.{bit, setBit, countBelow}
-use Rattle.protocol.proofs.MaskLaws.{bit-zero, bit-other, count-zero, count-more, added}
-use Rattle.floor.specs.State.{standing, isWaiting, isOnTheWay}
-use Rattle.floor.proofs.Standings.{clash, waits-means, waits-holds, arrives-means, arrives-holds}
-use Rattle.floor.specs.declared.Stage.{Stage}
-use Rattle.floor.specs.declared.Stage.the-variants.{Waiting, Answered}
+use Rattle.base.specs.Mask.{bit, setBit, countBelow}
+use Rattle.base.proofs.MaskLaws.{bit-zero, bit-other, count-zero, count-more, added}
+use Rattle.requests.specs.Requests.{standing, isWaiting, isOnTheWay}
+use Rattle.base.proofs.Cases.{clash}
+use Rattle.requests.proofs.Standings.{waits-means, waits-holds, arrives-means, arrives-holds}
+use Rattle.requests.specs.declared.Stage.{Stage}
+use Rattle.requests.specs.declared.Stage.the-variants.{Waiting, Answered}
 
 -- from box p on each waits, k answers are received, and each of those is good
 pub record Waits (n : ℕ) (stage : ℕ → Stage) (mask : ℕ) (Good : ℕ → Type 0) (p k : ℕ) : Type 0 where

@@ -3,13 +3,17 @@ use Prim.Native.Nat.{ℕ, zero, suc, _+_, _-_, _*_, _≤_, _<_}
 use native.Mathlib.Omega.{arith}
 use native.Mathlib.Nat.{sub-zero, zero-add}
 use mathlib.Core.Path.{_≡_, refl, sym, ap}
-use mathlib.Core.Bool.{Bool, true, false}
+use mathlib.Core.Bool.{true, false}
 use mathlib.Core.List.{List, [], _∷_}
-use lib.ListN.{length, getD, take, length-take}
+use lib.ListN.{length, getD, take, length-take, length-append}
+use Rattle.base.specs.Numbers.{quorum}
 use Rattle.base.proofs.Choices.{on-true, on-false, by-test}
+use Rattle.register.specs.Register.{box0}
 use Rattle.register.specs.declared.StorageBox.{StorageBox}
-use Rattle.floor.specs.State.{box0}
-use Rattle.solo.specs.Plan.{answeringFrom, lowest, exchange, exchanges}
+use Rattle.requests.specs.declared.Phase.{Phase}
+use Rattle.requests.specs.declared.Phase.the-variants.{Read, Write}
+use Rattle.floor.specs.declared.Floor.{Floor}
+use Rattle.solo.specs.Plan.{answeringFrom, lowest, askedOf, exchange, exchanges, exchangesOf, planOf}
 
 -- box b and those after it
 pub one-box : (n b : ℕ) → b < n → n - b ≡ suc (n - (b + 1))
@@ -36,15 +40,25 @@ answering-most (suc k) b boxes =
     by-test (λ (l : List ℕ). length l ≤ suc k) _ _ _ (λ _. omega arith) (λ _. omega arith)
 
 -- two steps with each box
-pub exchanges-length : (write : Bool) (a : ℕ) (bs : List ℕ) → length (exchanges write a bs) ≡ 2 * length bs
+pub exchanges-length : (p : Phase) (a : ℕ) (bs : List ℕ) → length (exchanges p a bs) ≡ 2 * length bs
 unfolding exchanges exchange
-exchanges-length write a [] = refl
-exchanges-length write a (b ∷ bs) = omega (arith, exchanges-length write a bs)
+exchanges-length p a [] = refl
+exchanges-length p a (b ∷ bs) = omega (arith, exchanges-length p a bs)
 
-pub exchanges-most : (write : Bool) (a q n : ℕ) (boxes : List StorageBox) → length (exchanges write a (lowest q boxes n)) ≤ 2 * n
+pub exchanges-most : (p : Phase) (a q n : ℕ) (boxes : List StorageBox) → length (exchanges p a (lowest q boxes n)) ≤ 2 * n
 unfolding lowest
-exchanges-most write a q n boxes =
-    omega (arith, exchanges-length write a (take q (answeringFrom n 0 boxes)), length-take q (answeringFrom n 0 boxes), answering-most n 0 boxes)
+exchanges-most p a q n boxes =
+    omega (arith, exchanges-length p a (take q (answeringFrom n 0 boxes)), length-take q (answeringFrom n 0 boxes), answering-most n 0 boxes)
+
+-- the whole plan
+pub plan-most : (f : Floor) (s v : ℕ) → length (planOf f s v) ≤ 4 * f .n + 1
+unfolding exchangesOf
+plan-most f s v =
+    let reads : List (List ℕ) = exchanges Read (f .used) (askedOf f) in
+    let writes : List (List ℕ) = exchanges Write (f .used) (askedOf f) in
+    let r = exchanges-most Read (f .used) (quorum (f .n)) (f .n) (f .boxes) in
+    let w = exchanges-most Write (f .used) (quorum (f .n)) (f .n) (f .boxes) in
+    omega (arith, length-append reads writes)
 
 -- counting: the c boxes found below b, and those from b on, are all
 abbrev pub CountInv : List StorageBox → ℕ → ℕ → ℕ → Type 0

@@ -1,19 +1,20 @@
 -- The plan of a solo finish is made of records of 8 bytes.
 use Prim.Native.Nat.{ℕ, zero, suc, _+_, _≤_, _<_}
 use native.Mathlib.Omega.{arith}
-use mathlib.Core.Bool.{Bool, true, false}
 use mathlib.Core.List.{List, [], _∷_}
 use lib.ListN.{take}
 use Rattle.base.specs.Numbers.{quorum}
 use Rattle.base.proofs.Choices.{by-test}
 use Rattle.register.specs.declared.StorageBox.{StorageBox}
-use Rattle.floor.specs.Commands.{encodeOf}
-use Rattle.floor.proofs.Encodings.{encode-length}
-use Rattle.floor.proofs.CommandLaws.{Fielded, encode-bytes}
+use Rattle.requests.specs.declared.Phase.{Phase}
+use Rattle.requests.specs.declared.Phase.the-variants.{Read, Write}
+use Rattle.commands.specs.Commands.{encodeOf}
+use Rattle.commands.specs.Claims.{Fielded}
+use Rattle.commands.proofs.Encodings.{encode-length, encode-bytes}
 use Rattle.floor.specs.declared.Floor.{Floor}
-use Rattle.floor.specs.declared.Command.{Command}
-use Rattle.floor.specs.declared.Command.the-variants.{Begin, ServeRead, ServeWrite, DeliverRead, DeliverWrite}
-use Rattle.solo.specs.Plan.{roundOf, answeringFrom, answering, lowest, exchange, exchanges, planOf}
+use Rattle.commands.specs.declared.Command.{Command}
+use Rattle.commands.specs.declared.Command.the-variants.{Begin, Serve, Deliver}
+use Rattle.solo.specs.Plan.{roundOf, answeringFrom, answering, lowest, exchange, exchanges, exchangesOf, planOf}
 use Rattle.base.specs.Records.{IsRecord, AllRecords}
 use Rattle.base.proofs.RecordLaws.{all-append}
 
@@ -37,19 +38,17 @@ answering-below n boxes (suc k) b h =
 command-record : (c : Command) → Fielded c → IsRecord (encodeOf c)
 command-record c h = record { eight = encode-length c; bytes = encode-bytes c h }
 
-exchanges-records : (write : Bool) (a : ℕ) (bs : List ℕ) → a < 256 → Below 256 bs → AllRecords (exchanges write a bs)
+exchanges-records : (p : Phase) (a : ℕ) (bs : List ℕ) → a < 256 → Below 256 bs → AllRecords (exchanges p a bs)
 unfolding exchanges exchange
-exchanges-records write a [] h u = tt
-exchanges-records false a (b ∷ bs) h u =
-    (command-record (ServeRead a b) (h, u .0), (command-record (DeliverRead a b) (h, u .0), exchanges-records false a bs h (u .1)))
-exchanges-records true a (b ∷ bs) h u =
-    (command-record (ServeWrite a b) (h, u .0), (command-record (DeliverWrite a b) (h, u .0), exchanges-records true a bs h (u .1)))
+exchanges-records p a [] h u = tt
+exchanges-records p a (b ∷ bs) h u = (command-record (Serve p a b) (h, u .0), (command-record (Deliver p a b) (h, u .0), exchanges-records p a bs h (u .1)))
 
 -- the plan is made of records of 8 bytes
+pub plan-rest : (f : Floor) → f .used < 256 → f .n ≤ 256 → AllRecords (exchangesOf f)
+unfolding exchangesOf lowest
+plan-rest f hu hn =
+    let u = below-take 256 (quorum (f .n)) (answering f) (answering-below 256 (f .boxes) (f .n) 0 (omega arith)) in
+    all-append (exchanges Read (f .used) _) _ (exchanges-records Read (f .used) _ hu u) (exchanges-records Write (f .used) _ hu u)
+
 pub plan-records : (f : Floor) (s v : ℕ) → s < 256 → v < 4294967296 → roundOf f s ≤ 65535 → f .used < 256 → f .n ≤ 256 → AllRecords (planOf f s v)
-unfolding planOf lowest
-plan-records f s v hs hv hr hu hn =
-    let u = below-take 256 (quorum (f .n)) (answering f) (answering-below 256 (f .boxes) (f .n) 0 (omega arith)) in (
-      command-record (Begin s (roundOf f s) v) (hs, omega arith, hv),
-      all-append (exchanges false (f .used) _) _ (exchanges-records false (f .used) _ hu u) (exchanges-records true (f .used) _ hu u),
-    )
+plan-records f s v hs hv hr hu hn = (command-record (Begin s (roundOf f s) v) (hs, omega arith, hv), plan-rest f hu hn)

@@ -7,10 +7,11 @@ use mathlib.Core.List.{List}
 use lib.ListN.{getD}
 use borrow.Author.Count.{below-more}
 use Rattle.base.specs.Numbers.{rankOf}
-use Rattle.floor.specs.State.{row0}
-use Rattle.floor.specs.declared.Row.{Row}
+use Rattle.attempts.specs.Rows.{row0}
+use Rattle.attempts.specs.declared.Row.{Row}
 use Rattle.floor.specs.declared.Floor.{Floor}
-use Rattle.solo.specs.Plan.{highestRank, highestBegun, roundAbove, roundOf, Smallest}
+use Rattle.solo.specs.Plan.{highestRank, highestBegun, roundAbove, roundOf}
+use Rattle.solo.specs.Claims.{Smallest}
 
 -- the highest rank is at least each, and at most what each is at most
 pub highest-each : (rows : List Row) (k a : ℕ) → a < k → getD rows a row0 .rank ≤ highestRank rows k

@@ -1,5 +1,3 @@
 pub mod Plan
-pub mod Drive
 pub mod Solo
-pub mod Counted
-pub mod Progress
+pub mod Claims

@@ -1,77 +1,73 @@
 -- Document 01, "Solo finish": the round that it picks, the boxes that it asks, and the list of its steps.
-use Prim.Native.Nat.{ℕ, zero, suc, _+_, _-_, _/_, _≤_, _<_, max}
-use mathlib.Core.Bool.{Bool, true, false}
+use Prim.Native.Nat.{ℕ, zero, suc, _+_, _-_, _/_, max}
 use mathlib.Core.List.{List, [], _∷_, _++_}
 use lib.ListN.{getD, take}
 use Rattle.base.specs.Choice.{if_then_else_}
-use Rattle.base.specs.Numbers.{quorum, rankOf}
+use Rattle.base.specs.Numbers.{quorum}
+use Rattle.register.specs.Register.{box0}
 use Rattle.register.specs.declared.StorageBox.{StorageBox}
-use Rattle.floor.specs.State.{box0, row0, rowAt}
-use Rattle.floor.specs.Commands.{encodeOf}
-use Rattle.floor.specs.declared.Row.{Row}
+use Rattle.requests.specs.declared.Phase.{Phase}
+use Rattle.requests.specs.declared.Phase.the-variants.{Read, Write}
+use Rattle.commands.specs.Commands.{encodeOf}
+use Rattle.commands.specs.declared.Command.the-variants.{Begin, Serve, Deliver}
+use Rattle.attempts.specs.Rows.{row0}
+use Rattle.attempts.specs.declared.Row.{Row}
 use Rattle.floor.specs.declared.Floor.{Floor}
-use Rattle.floor.specs.declared.Command.{Command}
-use Rattle.floor.specs.declared.Command.the-variants.{Begin, ServeRead, ServeWrite, DeliverRead, DeliverWrite}
 
 -- the highest rank of the first k rows, 0 where k is 0
-unfoldable pub highestRank : List Row → ℕ → ℕ
+unfoldable pub highestRank : (rows : List Row) (k : ℕ) → ℕ
 highestRank rows zero = 0
 highestRank rows (suc k) = max (highestRank rows k) (getD rows k row0 .rank)
 
 -- "every rank begun on the floor": the highest of them, the start rank where none was begun
-abbrev pub highestBegun : Floor → ℕ
+abbrev pub highestBegun : (f : Floor) → ℕ
 highestBegun f = highestRank (f .rows) (f .used)
 
--- the smallest round of at least 1 whose rank for station s passes h
-unfoldable pub roundAbove : ℕ → ℕ → ℕ
-roundAbove h s = (h - s) / 16 + 1
+-- the smallest round of at least 1 whose rank for that station passes h
+unfoldable pub roundAbove : (h station : ℕ) → ℕ
+roundAbove h station = (h - station) / 16 + 1
 
-abbrev pub roundOf : Floor → ℕ → ℕ
-roundOf f s = roundAbove (highestBegun f) s
-
--- "the smallest round, at least 1, whose rank passes every rank begun on the floor": what `roundOf f s` is shown to be
-pub record Smallest (f : Floor) (s round : ℕ) : Type 0 where
-  pub some : 1 ≤ round
-  pub passes : (a : ℕ) → a < f .used → rowAt f a .rank < rankOf round s
-  pub least : (r : ℕ) → 1 ≤ r → ((a : ℕ) → a < f .used → rowAt f a .rank < rankOf r s) → round ≤ r
+-- "it picks the smallest round, at least 1, whose rank passes every rank begun on the floor"; that it is the smallest is the claim
+-- `Smallest` in specs/Claims
+abbrev pub roundOf : (f : Floor) (station : ℕ) → ℕ
+roundOf f station = roundAbove (highestBegun f) station
 
 -- of k boxes from box b on, the numbers of those that have not stopped, in ascending order
-unfoldable pub answeringFrom : ℕ → ℕ → List StorageBox → List ℕ
+unfoldable pub answeringFrom : (k b : ℕ) (boxes : List StorageBox) → List ℕ
 answeringFrom zero b boxes = []
 answeringFrom (suc k) b boxes =
     if getD boxes b box0 .stopped then answeringFrom k (b + 1) boxes
     else b ∷ answeringFrom k (b + 1) boxes
 
-abbrev pub answering : Floor → List ℕ
+abbrev pub answering : (f : Floor) → List ℕ
 answering f = answeringFrom (f .n) 0 (f .boxes)
 
 -- "the q lowest-numbered answering boxes" of the first n; fewer where no more answer
-unfoldable pub lowest : ℕ → List StorageBox → ℕ → List ℕ
+unfoldable pub lowest : (q : ℕ) (boxes : List StorageBox) (n : ℕ) → List ℕ
 lowest q boxes n = take q (answeringFrom n 0 boxes)
 
 -- those of a floor: a quorum
-abbrev pub askedOf : Floor → List ℕ
+abbrev pub askedOf : (f : Floor) → List ℕ
 askedOf f = lowest (quorum (f .n)) (f .boxes) (f .n)
 
--- the serve and the delivery of attempt a's read (false) or write (true) at box b
-abbrev pub serveOf : Bool → ℕ → ℕ → Command
-serveOf false a b = ServeRead a b
-serveOf true a b = ServeWrite a b
-
-abbrev pub deliverOf : Bool → ℕ → ℕ → Command
-deliverOf false a b = DeliverRead a b
-deliverOf true a b = DeliverWrite a b
-
-unfoldable pub exchange : Bool → ℕ → ℕ → List (List ℕ)
-exchange write a b = encodeOf (serveOf write a b) ∷ encodeOf (deliverOf write a b) ∷ []
+-- the serve and the delivery of attempt a's read or write at box b, as 8-byte records
+unfoldable pub exchange : (phase : Phase) (a b : ℕ) → List (List ℕ)
+exchange phase a b = encodeOf (Serve phase a b) ∷ encodeOf (Deliver phase a b) ∷ []
 
 -- "one box after the other"
-unfoldable pub exchanges : Bool → ℕ → List ℕ → List (List ℕ)
-exchanges write a [] = []
-exchanges write a (b ∷ bs) = exchange write a b ++ exchanges write a bs
+unfoldable pub exchanges : (phase : Phase) (a : ℕ) (boxes : List ℕ) → List (List ℕ)
+exchanges phase a [] = []
+exchanges phase a (b ∷ bs) = exchange phase a b ++ exchanges phase a bs
 
 -- "It begins, serves and delivers the read at the q lowest-numbered answering boxes, one box after the other, then the write
--- likewise": the list of its steps, as 8-byte records. The attempt is the next row of the floor handed in, and so are the boxes
--- those that answer there.
-unfoldable pub planOf : Floor → ℕ → ℕ → List (List ℕ)
-planOf f s v = encodeOf (Begin s (roundOf f s) v) ∷ exchanges false (f .used) (askedOf f) ++ exchanges true (f .used) (askedOf f)
+-- likewise": the record of its begin, and those behind it. The attempt is the next row of the floor handed in, and the boxes are those
+-- that answer there.
+abbrev pub beginOf : (f : Floor) (station revision : ℕ) → List ℕ
+beginOf f station revision = encodeOf (Begin station (roundOf f station) revision)
+
+unfoldable pub exchangesOf : (f : Floor) → List (List ℕ)
+exchangesOf f = exchanges Read (f .used) (askedOf f) ++ exchanges Write (f .used) (askedOf f)
+
+-- the list of its steps
+abbrev pub planOf : (f : Floor) (station revision : ℕ) → List (List ℕ)
+planOf f station revision = beginOf f station revision ∷ exchangesOf f

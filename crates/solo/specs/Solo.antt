@@ -4,37 +4,45 @@ use lib.ListN.{length}
 use lib.Dec.{eqb, leb, ltb}
 use Rattle.base.specs.Choice.{if_then_else_}
 use Rattle.base.specs.Numbers.{quorum}
-use Rattle.floor.specs.State.{stationAt, isGone, isBusy}
+use Rattle.commands.specs.declared.Outcome.the-variants.{Refused}
+use Rattle.attempts.specs.Stations.{isGone, isBusy}
+use Rattle.floor.specs.Floors.{stationAt}
 use Rattle.floor.specs.Sound.{soundOf}
+use Rattle.floor.specs.Runs.{runOf}
 use Rattle.floor.specs.declared.Floor.{Floor}
-use Rattle.floor.specs.declared.Outcome.the-variants.{Refused}
-use Rattle.solo.specs.Plan.{roundOf, answering, planOf}
-use Rattle.solo.specs.Drive.{driveOf}
+use Rattle.floor.specs.declared.Until.the-variants.{End}
+use Rattle.floor.specs.declared.Ran.{Ran}
+use Rattle.solo.specs.Plan.{roundOf, answering, beginOf, exchangesOf}
 use Rattle.solo.specs.declared.Solo.{Solo}
 
 -- on a sound floor, where `round` is the round picked: 8, 9, 10, 11 ("for a solo finish, revision 0 or no round left"; "If that
 -- round exceeds 65,535 there is no round left"), 12, 15 ("A solo finish with fewer than q boxes not stopped"), 0 where none applies
-unfoldable pub frontRefusal : Floor → ℕ → ℕ → ℕ → ℕ
-frontRefusal f s v round =
-    if leb (f .m) s then 8
-    else if isGone (stationAt f s .state) then 9
-    else if isBusy (stationAt f s .state) then 10
-    else if eqb v 0 then 11
+unfoldable pub frontRefusal : (f : Floor) (station revision round : ℕ) → ℕ
+frontRefusal f station revision round =
+    if leb (f .m) station then 8
+    else if isGone (stationAt f station .state) then 9
+    else if isBusy (stationAt f station .state) then 10
+    else if eqb revision 0 then 11
     else if ltb 65535 round then 11
     else if leb 64 (f .used) then 12
     else if ltb (length (answering f)) (quorum (f .n)) then 15
     else 0
 
 -- 6 before all
-unfoldable pub soloRefusal : Floor → ℕ → ℕ → ℕ
-soloRefusal f s v = if soundOf f then frontRefusal f s v (roundOf f s) else 6
+unfoldable pub soloRefusal : (f : Floor) (station revision : ℕ) → ℕ
+soloRefusal f station revision = if soundOf f then frontRefusal f station revision (roundOf f station) else 6
 
 -- "a refused solo finish takes 0 steps", and "Floor .. stay unchanged"
-abbrev pub turnedBack : Floor → ℕ → Solo
-turnedBack f k = record { floor = f; steps = 0; outcome = Refused k }
+abbrev pub turnedAway : (f : Floor) (k : ℕ) → Solo
+turnedAway f k = record { floor = f; steps = 0; outcome = Refused k }
 
--- "It returns the floor and the number of steps it took, with what the last step said."
-unfoldable pub soloOf : Floor → ℕ → ℕ → Solo
-soloOf f s v =
-    if eqb (soloRefusal f s v) 0 then driveOf f (planOf f s v)
-    else turnedBack f (soloRefusal f s v)
+-- what a run of its steps came to: "A step turned back is not counted"
+abbrev pub ofRun : (x : Ran) → Solo
+ofRun x = record { floor = x .floor; steps = x .accepted; outcome = x .outcome }
+
+-- "It returns the floor and the number of steps it took, with what the last step said. On a hand-built floor a step may be turned back,
+-- or the attempt may end otherwise: it stops there and gives that refusal or end."
+unfoldable pub soloOf : (f : Floor) (station revision : ℕ) → Solo
+soloOf f station revision =
+    if eqb (soloRefusal f station revision) 0 then ofRun (runOf End f (beginOf f station revision) (exchangesOf f))
+    else turnedAway f (soloRefusal f station revision)

@@ -1,20 +1,23 @@
 // The solo finish: one station driven alone, from its begin to its decision.
 //
-// The checks only read the floor; then the steps of the plan are taken one after the other with `floor::apply`.
+// The checks only read the floor. Then the records of the plan are written into a buffer and run by one call, so that no floor is
+// moved for a step.
 ghost use mathlib.Core.Path.{_≡_};
-ghost use Prim.Native.Nat.{_<_, _≤_, max};
-ghost use lib.ListN.{length};
+ghost use mathlib.Core.List.{_++_, flatten};
+ghost use Prim.Native.Nat.{_+_, _*_, _<_, _≤_, max};
+ghost use lib.ListN.{length, take};
 ghost use lib.Dec.{ltb};
 ghost use Rattle.base.specs.Numbers.{quorum};
-ghost use Rattle.floor.specs.Commands.{encodeOf};
-ghost use Rattle.solo.specs.Plan.{highestBegun, roundAbove, roundOf, answeringFrom, lowest, serveOf, deliverOf, exchange, exchanges, planOf};
-ghost use Rattle.solo.specs.Drive.{goesOn, counted, advanceOf, drivenBy, driveOf};
-ghost use Rattle.solo.specs.Solo.{frontRefusal, turnedBack, soloOf};
-use floor::Command;
+ghost use Rattle.floor.specs.Runs.{runOf};
+ghost use Rattle.floor.specs.Claims.{Sound};
+ghost use Rattle.floor.specs.declared.Until.the-variants.{End};
+ghost use Rattle.solo.specs.Plan.{highestBegun, roundAbove, roundOf, answeringFrom, lowest, exchange, exchanges, beginOf, exchangesOf};
+ghost use Rattle.solo.specs.Solo.{frontRefusal, turnedAway, ofRun, soloOf};
+use commands::Command;
+use commands::Outcome;
 use floor::Floor;
-use floor::Outcome;
-use floor::Stepped;
 use register::StorageBox;
+use requests::Phase;
 
 // A floor, how many steps led to it, and what the last step said, a refused one included.
 pub struct Solo {
@@ -23,29 +26,13 @@ pub struct Solo {
     pub outcome: Outcome,
 }
 
-fn turned_back(f: Floor, k: u8) -> Solo
-    ensures { λ r. ⌜ r ≡ turnedBack f k ⌝ }
+fn turned_away(f: Floor, k: u8) -> Solo
+    ensures { λ r. ⌜ r ≡ turnedAway f k ⌝ }
 {
     Solo {
         floor: f,
         steps: 0,
         outcome: Outcome::Refused(k),
-    }
-}
-
-fn goes_on(o: Outcome) -> bool
-    ensures { λ r. ⌜ r ≡ goesOn o ⌝ }
-{
-    match o {
-        Outcome::Begun(_) => true,
-        Outcome::Served(_) => true,
-        Outcome::Received(_) => true,
-        Outcome::Aborted(_) => false,
-        Outcome::WriteIssued(_) => true,
-        Outcome::Decided(_) => false,
-        Outcome::Stopped(_) => true,
-        Outcome::Gone(_) => true,
-        Outcome::Refused(_) => false,
     }
 }
 
@@ -90,13 +77,13 @@ fn count_answering(boxes: [StorageBox; 9], n: u8) -> u8
     ensures { λ r. ⌜ r ≡ length (answeringFrom n 0 boxes) ⌝ }
 {
     let mut c: u8 = 0;
-    let mut b: u8 = 0;
-    while b < n {
-        let x = boxes[b as usize];
+    let mut k: u8 = 0;
+    while k < n {
+        let x = boxes[k as usize];
         if !x.stopped {
             c += 1;
         }
-        b += 1;
+        k += 1;
     }
     c
 }
@@ -119,10 +106,10 @@ fn refusal(f: Floor, s: u8, v: u32, round: u32) -> u8
     }
     let station = f.stations[s as usize];
     let state = station.state;
-    if floor::gone(state) {
+    if attempts::gone(state) {
         return 9;
     }
-    if floor::busy(state) {
+    if attempts::busy(state) {
         return 10;
     }
     if v == 0 {
@@ -141,101 +128,70 @@ fn refusal(f: Floor, s: u8, v: u32, round: u32) -> u8
     0
 }
 
-// A step after k accepted ones.
-fn count(k: u8, s: Stepped) -> Solo
-    requires { ⌜ k < 200 ⌝ }
-    ensures { λ r. ⌜ r ≡ counted k s ⌝ }
+// Stores a record from a place on.
+fn put_record(out: &mut [u8], at: usize, r: [u8; 8])
+    requires { ⌜ at + 8 ≤ length (now out) ⌝ }
+    ensures { λ _. ⌜ take (at + 8) (now (out .exit)) ≡ take at (now (out .entry)) ++ r ⌝ }
 {
-    let f = s.floor;
-    let o = s.outcome;
-    if floor::refused(o) {
-        return Solo {
-            floor: f,
-            steps: k,
-            outcome: o,
-        };
-    }
-    Solo {
-        floor: f,
-        steps: k + 1,
-        outcome: o,
+    let mut i: usize = 0;
+    while i < 8 {
+        out[at + i] = r[i];
+        i += 1;
     }
 }
 
-// The step of one command more, unless it is over.
-fn advance(d: Solo, c: Command) -> Solo
-    requires { ⌜ d .steps < 200 ⌝ }
-    ensures { λ r. ⌜ r ≡ advanceOf d (encodeOf c) ⌝ }
+// The same for the records of two steps: attempt a's read or write is served at box b, and its answer is delivered.
+fn put_exchange(out: &mut [u8], at: usize, p: Phase, a: u8, b: u8)
+    requires { ⌜ at + 16 ≤ length (now out) ⌝ }
+    ensures { λ _. ⌜ take (at + 16) (now (out .exit)) ≡ take at (now (out .entry)) ++ flatten (exchange p a b) ⌝ }
 {
-    let o = d.outcome;
-    if !goes_on(o) {
-        return d;
-    }
-    let f = d.floor;
-    let s = floor::apply(f, c);
-    count(d.steps, s)
+    put_record(out, at, commands::encode(Command::Serve(p, a, b)));
+    put_record(out, at + 8, commands::encode(Command::Deliver(p, a, b)));
 }
 
-fn serve(write: bool, a: u8, b: u8) -> Command
-    ensures { λ r. ⌜ r ≡ serveOf write a b ⌝ }
+// The same for a phase: the exchanges of attempt a with the lowest-numbered of the first n boxes that have not stopped, a quorum of
+// them, one box after the other. It returns the place behind them.
+fn put_phase(out: &mut [u8], at: usize, boxes: [StorageBox; 9], n: u8, p: Phase, a: u8) -> usize
+    requires { ⌜ (n ≤ 9) × (at + 16 * quorum n ≤ length (now out)) ⌝ }
+    ensures within { λ r. ⌜ r ≤ at + 16 * quorum n ⌝ }
+    ensures records { λ r. ⌜ take r (now (out .exit)) ≡ take at (now (out .entry)) ++ flatten (exchanges p a (lowest (quorum n) boxes n)) ⌝ }
 {
-    if write {
-        return Command::ServeWrite(a, b);
-    }
-    Command::ServeRead(a, b)
-}
-
-fn deliver(write: bool, a: u8, b: u8) -> Command
-    ensures { λ r. ⌜ r ≡ deliverOf write a b ⌝ }
-{
-    if write {
-        return Command::DeliverWrite(a, b);
-    }
-    Command::DeliverRead(a, b)
-}
-
-// Attempt a's read or write at box b is served and its answer delivered.
-fn exchanged(d: Solo, write: bool, a: u8, b: u8) -> Solo
-    requires { ⌜ d .steps < 100 ⌝ }
-    ensures { λ r. ⌜ r ≡ drivenBy d (exchange write a b) ⌝ }
-{
-    let e = advance(d, serve(write, a, b));
-    advance(e, deliver(write, a, b))
-}
-
-// The reads or the writes of attempt a at the q lowest-numbered of the first n boxes that have not stopped.
-fn phase(mut d: Solo, boxes: [StorageBox; 9], n: u8, write: bool, a: u8, q: u8) -> Solo
-    requires { ⌜ (n ≤ 9) × (d .steps < 50) ⌝ }
-    ensures { λ r. ⌜ r ≡ drivenBy d (exchanges write a (lowest q boxes n)) ⌝ }
-{
-    let mut left = q;
+    let mut end = at;
+    let mut left = base::majority(n);
     let mut b: u8 = 0;
     while b < n {
         let x = boxes[b as usize];
         if !x.stopped {
             if 0 < left {
-                d = exchanged(d, write, a, b);
                 left -= 1;
+                put_exchange(out, end, p, a, b);
+                end += 16;
             }
         }
         b += 1;
     }
-    d
+    end
 }
 
-// The steps of the plan, up to the first that is turned back or that ends the attempt.
+// The steps of the plan, up to the first that is turned back or that ends the attempt. Two phases with at most 5 boxes each are 20
+// records of 8 bytes behind the begin.
 fn drive(f: Floor, s: u8, round: u16, v: u32) -> Solo
-    requires { ⌜ (f .n ≤ 9) × (round ≡ roundOf f s) ⌝ }
-    ensures { λ r. ⌜ r ≡ driveOf f (planOf f s v) ⌝ }
+    requires { ⌜ (Sound f) × (round ≡ roundOf f s) ⌝ }
+    ensures { λ r. ⌜ r ≡ ofRun (runOf End f (beginOf f s v) (exchangesOf f)) ⌝ }
 {
     let boxes = f.boxes;
-    let n = f.n;
-    let a = f.used;
-    let q = base::majority(n);
-    let begun = floor::apply(f, Command::Begin(s, round, v));
-    let d = count(0, begun);
-    let e = phase(d, boxes, n, false, a, q);
-    phase(e, boxes, n, true, a, q)
+    let mut out: [u8; 160] = [0; 160];
+    let reads = put_phase(&mut out, 0, boxes, f.n, Phase::Read, f.used);
+    let end = put_phase(&mut out, reads, boxes, f.n, Phase::Write, f.used);
+    let first = commands::encode(Command::Begin(s, round, v));
+    let ran = floor::drive(f, first, &out[..end]);
+    let floor = ran.floor;
+    let outcome = ran.outcome;
+    Solo {
+        floor,
+        steps: ran.accepted as u8,
+        outcome,
+    }
 }
 
 // For a station and a revision: the floor, how many steps led to it, and what the last step said.
@@ -243,12 +199,12 @@ pub fn solo_finish(f: Floor, s: u8, v: u32) -> Solo
     ensures { λ r. ⌜ r ≡ soloOf f s v ⌝ }
 {
     if !floor::sound(f) {
-        return turned_back(f, 6);
+        return turned_away(f, 6);
     }
     let round = round_above(highest(f), s);
     let e = refusal(f, s, v, round);
     if e != 0 {
-        return turned_back(f, e);
+        return turned_away(f, e);
     }
     drive(f, s, round as u16, v)
 }

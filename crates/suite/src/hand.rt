@@ -3,19 +3,23 @@
 //     f0 boxes stations rows                  how many there are, of rows how many are in use
 //     f1 row station readers writers          the station of a row, and its masks of the boxes whose answers were received
 //     f2 box read write value stopped         a box
-//     f3 station state attempt last decided   a station; its state counts from 0, in the order of `Phase`
+//     f3 station state attempt last decided   a station; its state counts from 0, in the order of `State`
+use attempts::Row;
+use attempts::State;
+use attempts::Station;
 use floor::Floor;
-use floor::Phase;
-use floor::Row;
-use floor::Station;
 use register::Register;
 use register::StorageBox;
 
 fn row(w: Row, r: [u8; 8]) -> Row {
+    let mut read = w.read;
+    read.heard = r[3] as u16;
+    let mut write = w.write;
+    write.heard = r[4] as u16;
     let mut x = w;
     x.station = r[2];
-    x.readers = r[3] as u16;
-    x.writers = r[4] as u16;
+    x.read = read;
+    x.write = write;
     x
 }
 
@@ -31,13 +35,13 @@ fn storage(r: [u8; 8]) -> StorageBox {
     }
 }
 
-fn state(number: u8, attempt: u8) -> Phase {
+fn state(number: u8, attempt: u8) -> State {
     match number {
-        0 => Phase::Idle,
-        1 => Phase::Reading(attempt),
-        2 => Phase::Writing(attempt),
-        3 => Phase::Decided(attempt),
-        _ => Phase::Gone,
+        0 => State::Idle,
+        1 => State::Reading(attempt),
+        2 => State::Writing(attempt),
+        3 => State::Decided(attempt),
+        _ => State::Gone,
     }
 }
 

@@ -1,10 +1,10 @@
 // A step, what came of it, a refusal, stations and boxes, in words.
 ghost use Prim.Native.Nat.{_≤_};
 use crate::text;
+use attempts::State;
+use attempts::Station;
+use commands::Outcome;
 use floor::Floor;
-use floor::Outcome;
-use floor::Phase;
-use floor::Station;
 use register::StorageBox;
 
 fn at_most(most: u8, x: u8) -> u8
@@ -101,13 +101,13 @@ pub(crate) fn outcome(o: Outcome) {
     }
 }
 
-fn place(state: Phase) -> u8 {
+fn place(state: State) -> u8 {
     match state {
-        Phase::Idle => 0,
-        Phase::Reading(_) => 1,
-        Phase::Writing(_) => 2,
-        Phase::Decided(_) => 3,
-        Phase::Gone => 4,
+        State::Idle => 0,
+        State::Reading(_) => 1,
+        State::Writing(_) => 2,
+        State::Decided(_) => 3,
+        State::Gone => 4,
     }
 }
 

@@ -14,7 +14,8 @@ use lib.Seq.{drop-cons}
 use Rattle.base.specs.Choice.{if_then_else_}
 use Rattle.base.proofs.Choices.{on-true, on-false}
 use Rattle.register.specs.declared.StorageBox.{StorageBox}
-use Rattle.tally.specs.Tally.{notStopped, highestWrite, tallyOf, withBox, Counts, Tallied}
+use Rattle.tally.specs.Tally.{notStopped, highestWrite, tallyOf, oneMore}
+use Rattle.tally.specs.Claims.{Counts, TallyTheorem}
 use Rattle.tally.specs.declared.Tally.{Tally}
 
 -- a tally begins with 0 and 0
@@ -31,18 +32,18 @@ pub tally-going : (b : StorageBox) (bs : List StorageBox) → b .stopped ≡ fal
 unfolding tallyOf notStopped highestWrite if_then_else_
 tally-going b bs e = rw (e, add-one) refl
 
-cons-by : (s : Bool) (b : StorageBox) (bs : List StorageBox) → b .stopped ≡ s → tallyOf (b ∷ bs) ≡ withBox b (tallyOf bs)
-unfolding withBox
+cons-by : (s : Bool) (b : StorageBox) (bs : List StorageBox) → b .stopped ≡ s → tallyOf (b ∷ bs) ≡ oneMore b (tallyOf bs)
+unfolding oneMore
 cons-by true b bs e = on-true _ e (tally-stopped b bs e)
 cons-by false b bs e = on-false _ e (tally-going b bs e)
 
-pub tally-cons : (b : StorageBox) (bs : List StorageBox) → tallyOf (b ∷ bs) ≡ withBox b (tallyOf bs)
+pub tally-cons : (b : StorageBox) (bs : List StorageBox) → tallyOf (b ∷ bs) ≡ oneMore b (tallyOf bs)
 tally-cons b bs = cons-by (b .stopped) b bs refl
 
 -- the tally of the boxes from j on, from that of the boxes behind box j
-pub tally-at : (bs : List StorageBox) (i j : ℕ) (d : StorageBox) (t r : Tally) → i ≡ suc j → j < length bs → t ≡ tallyOf (drop i bs) → r ≡ withBox (getD bs j d) t → r ≡ tallyOf (drop j bs)
+pub tally-at : (bs : List StorageBox) (i j : ℕ) (d : StorageBox) (t r : Tally) → i ≡ suc j → j < length bs → t ≡ tallyOf (drop i bs) → r ≡ oneMore (getD bs j d) t → r ≡ tallyOf (drop j bs)
 tally-at bs i j d t r n h e f =
-    f ∙ ap (withBox (getD bs j d)) (e ∙ ap (λ (m : ℕ). tallyOf (drop m bs)) n)
+    f ∙ ap (oneMore (getD bs j d)) (e ∙ ap (λ (m : ℕ). tallyOf (drop m bs)) n)
     ∙ sym (tally-cons (getD bs j d) (drop (suc j) bs)) ∙ ap tallyOf (sym (drop-cons bs j d h))
 
 -- behind the last box there is nothing to count
@@ -126,7 +127,7 @@ reached [] p = absurd (not-suc-le-zero (subst (λ (t : Tally). 0 < t .count) tal
 reached (b ∷ bs) p = reached-by (b .stopped) b bs refl (reached bs) p
 
 -- what a tally means
-pub tallied : (bs : List StorageBox) → Tallied bs (tallyOf bs)
+pub tallied : TallyTheorem
 unfolding tallyOf
 tallied bs = record {
   count = refl;

@@ -2,7 +2,7 @@
 ghost use mathlib.Core.Path.{_≡_};
 ghost use Prim.Native.Nat.{_+_, _≤_, _<_, _^_, min};
 ghost use lib.ListN.{take};
-ghost use Rattle.tally.specs.Tally.{withBox, tallyOf};
+ghost use Rattle.tally.specs.Tally.{oneMore, tallyOf};
 use register::StorageBox;
 
 // How many boxes have not stopped, and the highest write rank among those; 0 and 0 where there are none.
@@ -14,7 +14,7 @@ pub struct Tally {
 // A tally with one box more.
 fn with_box(b: StorageBox, t: Tally) -> Tally
     requires { ⌜ t .count + 1 < 2 ^ 64 ⌝ }
-    ensures { λ r. ⌜ r ≡ withBox b t ⌝ }
+    ensures { λ r. ⌜ r ≡ oneMore b t ⌝ }
 {
     if b.stopped {
         return t;

@@ -17,4 +17,5 @@ wrong-size-spec =
     (λ c κs. search needs)
     (λ c κs. search needs)
     (λ c. search needs)
-    (λ c. on-false _ (search tests) (on-false _ (search tests) (rw (c .pair .ensures, c .before .byte-at2 .ensures, c .before .before .byte-at .ensures)))))
+    (λ c. search needs)
+    (λ c. on-false _ (search tests) (on-false _ (search tests) (rw (c .be16 .ensures, c .before .byte-at2 .ensures, c .before .before .byte-at .ensures)))))

@@ -1,5 +1,5 @@
 use borrow.Author.Needs.{needs}
-use Rattle.firmware.proofs.RecordLaws.{decode-words}
+use Rattle.firmware.proofs.BoxRecordLaws.{decode-words}
 use Rattle.firmware.proofs.load.Statement.{statement}
 use Rattle.firmware.proofs.load.Tie as tie
 

@@ -1,16 +1,14 @@
 use borrow.Author.Needs.{needs}
-use Rattle.firmware.specs.Firmware.{encode}
-use Rattle.firmware.proofs.ByteLaws.{three-words}
+use Rattle.firmware.proofs.BoxRecordLaws.{record-stored}
 use Rattle.firmware.proofs.store.Statement.{statement}
 use Rattle.firmware.proofs.store.Tie as tie
 
 returns : tie.Need-returns
-unfolding encode
 returns c =
     let second = c .before .before .before .before .before .before in
     let first = second .before .before .before .before in
     let start = first .before .before .before in
-    three-words _ _ _ _ _ _ _ (start .pre) (first .put-u32 .ensures) (second .put-u322 .ensures) (c .before .before .put-u323 .ensures)
+    record-stored _ _ _ _ _ (start .pre) (first .put-u32 .ensures) (second .put-u322 .ensures) (c .before .before .put-u323 .ensures)
 
 pub store-spec : {M : Type 1} → statement M
 store-spec =

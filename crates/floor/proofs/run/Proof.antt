@@ -1,8 +1,5 @@
 use borrow.Author.Needs.{needs}
-use native.Mathlib.Omega.{arith}
-use Rattle.base.proofs.Tests.{tests}
-use Rattle.floor.proofs.SoundLaws.{sound-means}
-use Rattle.floor.proofs.RunLaws.{run-none, run-unsound}
+use Rattle.floor.proofs.RunCalls.{played-none, played-some}
 use Rattle.floor.proofs.run.Statement.{statement}
 use Rattle.floor.proofs.run.Tie as tie
 
@@ -10,8 +7,13 @@ pub run-spec : {M : Type 1} → statement M
 run-spec =
     tie.close
     (tie.spec
-    (λ c. run-none _ _ _ (c .if1 .taken))
+    (λ c. played-none _ (c .before .before .args .records .now) (c .if1 .taken))
     (λ c κs. search needs)
-    (λ c. run-unsound _ _ _ (c .before .before .if1 .left) (search tests))
-    (λ c κs. (sound-means _ (search tests), omega arith))
-    (λ c. c .run-sound .ensures))
+    (λ c. search needs)
+    (λ c. search needs)
+    (λ c. search needs)
+    (λ c κs. search needs)
+    (λ c κs. search needs)
+    (λ c.
+    let q = c .before .before in
+    played-some _ (q .before .before .before .if1 .left) _ _ _ _ (q .before .before .record-at .ensures) (q .run-from .ensures) (c .number .ensures)))

@@ -1,20 +1,64 @@
-use borrow.Author.Needs.{needs}
-use Prim.Native.Nat.{_≤_, _-_, _*_}
+-- The loop takes one step a turn. `turn` names what a turn did; what is asked behind it follows from that the turn is the step.
+use Prim.Native.Nat.{_≤_, _<_, _-_, _*_, _/_}
 use native.Mathlib.Omega.{arith}
-use mathlib.Core.Path.{_≡_, sym, _∙_}
 use native.Mathlib.Nat.{sub-zero}
+use borrow.Author.Needs.{needs}
+use mathlib.Core.Path.{_≡_, sym, ap, subst, _∙_}
+use mathlib.Core.Bool.{true, false}
+use lib.ListN.{length}
 use Rattle.base.specs.Records.{recordsFrom}
-use Rattle.floor.specs.Sound.{Sound}
-use Rattle.floor.specs.Runs.{runFrom, runOf}
-use Rattle.floor.proofs.RunLaws.{run-ends, turn-boxes, turn-refused, turn-sound, turn-on}
+use Rattle.commands.specs.Outcomes.{isRefused}
+use Rattle.parts.specs.Parts.{changeIn}
+use Rattle.parts.specs.declared.Parts.{Parts}
+use Rattle.floor.specs.Runs.{runFrom}
+use Rattle.floor.specs.Claims.{Sound}
+use Rattle.floor.proofs.RunLaws.{Turn, turn-refused, turn-sound, turn-over, turn-left, turn-on}
 use Rattle.floor.proofs.run_sound.Statement.{statement}
 use Rattle.floor.proofs.run_sound.Tie as tie
 
 abbrev Inv-loop : tie.InvT-loop
-Inv-loop records count f₀ last₀ k₀ f last k = (k ≤ count) × Sound f × (runFrom k last f (recordsFrom (count - k) records (8 * k)) ≡ runOf f₀ (recordsFrom count records 0))
+Inv-loop records until f₀ count c₀ k₀ f c k =
+    (k ≤ count) × Sound f × (runFrom until k f c (recordsFrom (count - k) records (8 * k)) ≡ runFrom until 0 f₀ c₀ (recordsFrom count records 0))
 
 abbrev μ-loop : tie.MeasureT-loop
-μ-loop records count f₀ last₀ k₀ f last k = count - k
+μ-loop records until f₀ count c₀ k₀ f c k = count - k
+
+-- Places of a turn: its head, where the step's change is known, and behind its stores.
+abbrev Head : Type 0
+Head = tie.At-loop Inv-loop μ-loop
+
+abbrev Changing : Type 0
+Changing = tie.After-change Inv-loop μ-loop
+
+abbrev Storing : Type 0
+Storing = tie.After-station2 Inv-loop μ-loop
+
+abbrev head : Changing → Head
+head x = x .before .before .before .before .before .before .before .before
+
+abbrev changing : Storing → Changing
+changing x = x .before .before .before .before .before .before
+
+turn : (x : Changing) → Turn (head x .loop .f) (head x .loop .c) (x .before .before .before .before .before .before .before .row-place .result)
+    (x .before .before .before .before .before .before .box-place .result) (x .before .before .before .before .station-place .result) (x .change .result)
+turn x = record {
+  sound = head x .loop .inv .1;
+  row = x .before .before .before .before .before .before .before .row-place .ensures .0;
+  storage = x .before .before .before .before .before .before .box-place .ensures .0;
+  station = x .before .before .before .before .station-place .ensures .0;
+  change = x .change .ensures ∙ ap (λ (p : Parts). changeIn p (head x .loop .c)) (x .before .gathered .ensures);
+}
+
+-- the step was refused, or accepted
+turned-back : (c : tie.Then1 Inv-loop μ-loop) → isRefused (c .before .before .change .result .outcome) ≡ true
+turned-back c = sym (c .before .refused .ensures) ∙ c .if1 .taken
+
+accepted : (x : Storing) → isRefused (changing x .change .result .outcome) ≡ false
+accepted x = sym (x .before .before .before .before .before .refused .ensures) ∙ x .before .before .before .before .if1 .left
+
+-- it was not the last: a record is left
+left : (c : tie.Else2 Inv-loop μ-loop) → head (changing (c .before .before)) .loop .k < length (head (changing (c .before .before)) .before .before .args .records .now) / 8
+left c = let x = c .before .before in turn-left (turn (changing x)) (accepted x) _ _ _ (sym (c .before .over .ensures) ∙ c .if2 .left)
 
 pub run-sound-spec : {M : Type 1} → statement M
 run-sound-spec =
@@ -22,18 +66,13 @@ run-sound-spec =
     (tie.spec
     Inv-loop
     μ-loop
-    (λ c. (search needs, c .before .pre .0, rw sub-zero))
-    (λ c. let h = c .loop-test .taken in let g = c .before .before .before .pre .1 in let z = c .before .before .before .good in omega arith)
-    (λ c κs. let h = c .loop-test .taken in let g = c .before .before .before .pre .1 in let z = c .before .before .before .good in omega arith)
-    (λ c κs. search needs)
+    (λ c. (search needs, c .before .pre, rw sub-zero))
     (λ c κs. search needs)
     (λ c. search needs)
-    (λ c κs. search needs)
     (λ c κs. search needs)
     (λ c. search needs)
     (λ c. search needs)
     (λ c. search needs)
-    (λ c κs. search needs)
     (λ c κs. search needs)
     (λ c. search needs)
     (λ c. search needs)
@@ -41,16 +80,28 @@ run-sound-spec =
     (λ c. search needs)
     (λ c. search needs)
     (λ c κs. search needs)
-    (λ c κs. turn-boxes _ _ _ ((c .before .before .before .before .before .before .before .before .before .before .before) .loop-test .taken) ((c .before .before .before .before .before .before .before .before .before .before .before .before) .loop .last) _ ((c .before .before .before .before .before .before .before .before .before .before .before .before) .loop .inv .1) _ ((c .before .before .before .before .before .before .before .before .before .before) .command-at .ensures) _ _ _ _ _ _ ((c .before .before .before .before .before .before .before .before .before) .attempt-in .ensures) ((c .before .before .before .before .before .before .before .before) .place .ensures .0) ((c .before .before .before .before .before .before .before) .box-in .ensures) ((c .before .before .before .before .before .before) .place2 .ensures .0) ((c .before .before .before .before) .station-in .ensures) ((c .before .before .before) .place3 .ensures .0) _ ((c) .gathered .ensures))
-    (λ c. turn-refused _ _ _ ((c .before .before .before .before .before .before .before .before .before .before .before .before .before) .loop-test .taken) ((c .before .before .before .before .before .before .before .before .before .before .before .before .before .before) .loop .last) _ ((c .before .before .before .before .before .before .before .before .before .before .before .before .before .before) .loop .inv .1) _ ((c .before .before .before .before .before .before .before .before .before .before .before .before) .command-at .ensures) _ _ _ _ _ _ ((c .before .before .before .before .before .before .before .before .before .before .before) .attempt-in .ensures) ((c .before .before .before .before .before .before .before .before .before .before) .place .ensures .0) ((c .before .before .before .before .before .before .before .before .before) .box-in .ensures) ((c .before .before .before .before .before .before .before .before) .place2 .ensures .0) ((c .before .before .before .before .before .before) .station-in .ensures) ((c .before .before .before .before .before) .place3 .ensures .0) _ ((c .before .before) .gathered .ensures) _ (c .before .refusal .ensures) (c .if1 .taken) ∙ c .before .before .before .before .before .before .before .before .before .before .before .before .before .before .loop .inv .2)
-    (λ c κs. (turn-boxes _ _ _ ((c .before .before .before .before .before .before .before .before .before .before .before .before .before) .loop-test .taken) ((c .before .before .before .before .before .before .before .before .before .before .before .before .before .before) .loop .last) _ ((c .before .before .before .before .before .before .before .before .before .before .before .before .before .before) .loop .inv .1) _ ((c .before .before .before .before .before .before .before .before .before .before .before .before) .command-at .ensures) _ _ _ _ _ _ ((c .before .before .before .before .before .before .before .before .before .before .before) .attempt-in .ensures) ((c .before .before .before .before .before .before .before .before .before .before) .place .ensures .0) ((c .before .before .before .before .before .before .before .before .before) .box-in .ensures) ((c .before .before .before .before .before .before .before .before) .place2 .ensures .0) ((c .before .before .before .before .before .before) .station-in .ensures) ((c .before .before .before .before .before) .place3 .ensures .0) _ ((c .before .before) .gathered .ensures), sym (c .before .refusal .ensures) ∙ c .if1 .left))
-    (λ c. let h = c .before .before .before .before .before .before .before .before .before .before .before .before .before .before .before .place .ensures .1 in search needs)
-    (λ c. let h = c .before .before .before .before .before .before .before .before .before .before .before .before .before .before .before .place .ensures .1 in search needs)
-    (λ c. let h = c .before .before .before .before .before .before .before .before .before .before .before .before .before .place2 .ensures .1 in search needs)
-    (λ c. let h = c .before .before .before .before .before .before .before .before .before .before .before .before .before .place2 .ensures .1 in search needs)
-    (λ c. let h = c .before .before .before .before .before .before .before .before .before .before .place3 .ensures .1 in search needs)
-    (λ c. let h = c .before .before .before .before .before .before .before .before .before .before .place3 .ensures .1 in search needs)
-    (λ c. let h = c .before .before .before .before .before .before .before .before .before .before .before .before .before .before .before .before .before .before .loop-test .taken in let g = c .before .before .before .before .before .before .before .before .before .before .before .before .before .before .before .before .before .before .before .before .before .pre .1 in let z = c .before .before .before .before .before .before .before .before .before .before .before .before .before .before .before .before .before .before .before .before .before .good in omega arith)
-    (λ c. let h = c .before .before .before .before .before .before .before .before .before .before .before .before .before .before .before .before .before .before .loop-test .taken in omega arith)
-    (λ c. (let h = (c .before .before .before .before .before .before .before .before .before .before .before .before .before .before .before .before .before .before) .loop-test .taken in omega arith, turn-sound _ _ _ ((c .before .before .before .before .before .before .before .before .before .before .before .before .before .before .before .before .before .before) .loop-test .taken) ((c .before .before .before .before .before .before .before .before .before .before .before .before .before .before .before .before .before .before .before) .loop .last) _ ((c .before .before .before .before .before .before .before .before .before .before .before .before .before .before .before .before .before .before .before) .loop .inv .1) _ ((c .before .before .before .before .before .before .before .before .before .before .before .before .before .before .before .before .before) .command-at .ensures) _ _ _ _ _ _ ((c .before .before .before .before .before .before .before .before .before .before .before .before .before .before .before .before) .attempt-in .ensures) ((c .before .before .before .before .before .before .before .before .before .before .before .before .before .before .before) .place .ensures .0) ((c .before .before .before .before .before .before .before .before .before .before .before .before .before .before) .box-in .ensures) ((c .before .before .before .before .before .before .before .before .before .before .before .before .before) .place2 .ensures .0) ((c .before .before .before .before .before .before .before .before .before .before .before) .station-in .ensures) ((c .before .before .before .before .before .before .before .before .before .before) .place3 .ensures .0) _ ((c .before .before .before .before .before .before .before) .gathered .ensures) _ (c .before .before .before .before .before .before .refusal .ensures) (c .before .before .before .before .before .if1 .left) _ (c .before .before .before .before .effect .ensures), turn-on _ _ _ ((c .before .before .before .before .before .before .before .before .before .before .before .before .before .before .before .before .before .before) .loop-test .taken) ((c .before .before .before .before .before .before .before .before .before .before .before .before .before .before .before .before .before .before .before) .loop .last) _ ((c .before .before .before .before .before .before .before .before .before .before .before .before .before .before .before .before .before .before .before) .loop .inv .1) _ ((c .before .before .before .before .before .before .before .before .before .before .before .before .before .before .before .before .before) .command-at .ensures) _ _ _ _ _ _ ((c .before .before .before .before .before .before .before .before .before .before .before .before .before .before .before .before) .attempt-in .ensures) ((c .before .before .before .before .before .before .before .before .before .before .before .before .before .before .before) .place .ensures .0) ((c .before .before .before .before .before .before .before .before .before .before .before .before .before .before) .box-in .ensures) ((c .before .before .before .before .before .before .before .before .before .before .before .before .before) .place2 .ensures .0) ((c .before .before .before .before .before .before .before .before .before .before .before) .station-in .ensures) ((c .before .before .before .before .before .before .before .before .before .before) .place3 .ensures .0) _ ((c .before .before .before .before .before .before .before) .gathered .ensures) _ (c .before .before .before .before .before .before .refusal .ensures) (c .before .before .before .before .before .if1 .left) _ (c .before .before .before .before .effect .ensures) ∙ c .before .before .before .before .before .before .before .before .before .before .before .before .before .before .before .before .before .before .before .loop .inv .2))
-    (λ c. run-ends _ _ _ _ _ _ (c .loop-test .left) ∙ c .before .loop .inv .2))
+    (λ c κs. subst (λ (x : Parts). x .n ≤ 9) (sym (c .gathered .ensures)) (c .before .before .before .before .before .before .before .loop .inv .1 .box-most))
+    (λ c κs. search needs)
+    (λ c. let x = c .before .before in turn-refused (turn x) _ _ _ (turned-back c) ∙ head x .loop .inv .2)
+    (λ c. let h = changing c .before .before .before .before .before .before .before .row-place .ensures .1 in search needs)
+    (λ c. let h = changing c .before .before .before .before .before .before .before .row-place .ensures .1 in search needs)
+    (λ c. let h = changing c .before .before .before .before .before .before .box-place .ensures .1 in search needs)
+    (λ c. let h = changing c .before .before .before .before .before .before .box-place .ensures .1 in search needs)
+    (λ c. let h = changing c .before .before .before .before .station-place .ensures .1 in search needs)
+    (λ c. let h = changing c .before .before .before .before .station-place .ensures .1 in search needs)
+    (λ c. let h = head (changing c) .loop .inv .0 in omega arith)
+    (λ c κs. search needs)
+    (λ c. let x = head (changing (c .before .before)) in let h = x .loop .inv .0 in let z = x .before .before .good in omega arith)
+    (λ c.
+    let x = c .before .before in
+    turn-over (turn (changing x)) (accepted x) _ _ _ _ (sym (c .before .over .ensures) ∙ c .if2 .taken) ∙ head (changing x) .loop .inv .2)
+    (λ c. let h = left c in let z = head (changing (c .before .before)) .before .before .good in omega arith)
+    (λ c κs. let h = left c in let z = head (changing (c .before .before)) .before .before .good in omega arith)
+    (λ c. let h = left (c .before) in let z = head (changing (c .before .before .before)) .before .before .good in omega arith)
+    (λ c. let h = left (c .before) in omega arith)
+    (λ c.
+    let x = c .before .before .before in
+    let t = turn (changing x) in
+    let a = accepted x in
+    let h = left (c .before) in
+    (omega arith, turn-sound t a, turn-on t a _ _ _ _ (sym (c .before .before .over .ensures) ∙ c .before .if2 .left) _ (c .command-at .ensures) ∙ head (changing x) .loop .inv .2)))

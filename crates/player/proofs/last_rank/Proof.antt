@@ -1,6 +1,6 @@
 use borrow.Author.Needs.{needs}
 use Rattle.base.proofs.Tests.{picks}
-use Rattle.player.specs.Played.{lastRank}
+use Rattle.player.specs.Play.{lastRank}
 use Rattle.player.proofs.last_rank.Statement.{statement}
 use Rattle.player.proofs.last_rank.Tie as tie
 

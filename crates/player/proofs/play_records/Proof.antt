@@ -8,5 +8,4 @@ play-records-spec =
     (tie.spec
     (λ c κs. search needs)
     (λ c κs. search needs)
-    (λ c κs. search needs)
-    (λ c. rw (c .number .ensures, c .before .before .run .ensures, c .before .before .before .before .new-floor .ensures)))
+    (λ c. rw (← c .before .before .new-floor .ensures) (c .run .ensures)))

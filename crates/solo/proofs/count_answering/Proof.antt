@@ -7,10 +7,10 @@ use Rattle.solo.proofs.count_answering.Statement.{statement}
 use Rattle.solo.proofs.count_answering.Tie as tie
 
 abbrev Inv-loop : tie.InvT-loop
-Inv-loop n boxes c₀ b₀ c b = CountInv boxes n c b
+Inv-loop n boxes c₀ k₀ c k = CountInv boxes n c k
 
 abbrev μ-loop : tie.MeasureT-loop
-μ-loop n boxes c₀ b₀ c b = n - b
+μ-loop n boxes c₀ k₀ c k = n - k
 
 loop-again : tie.Need-loop-again Inv-loop μ-loop
 loop-again c =

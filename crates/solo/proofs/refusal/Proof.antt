@@ -1,7 +1,7 @@
 use borrow.Author.Needs.{needs}
 use mathlib.Core.Path.{refl}
 use Rattle.base.proofs.Choices.{on-true, on-false}
-use Rattle.base.proofs.Tests.{tests}
+use Rattle.base.proofs.Tests.{tests, picks}
 use Rattle.solo.specs.Solo.{frontRefusal}
 use Rattle.solo.proofs.refusal.Statement.{statement}
 use Rattle.solo.proofs.refusal.Tie as tie
@@ -22,5 +22,5 @@ refusal-spec =
     (λ c. on-false _ (search tests) (on-false _ (search tests) (on-false _ (search tests) (on-false _ (search tests) (on-true _ (search tests) refl)))))
     (λ c. on-false _ (search tests) (on-false _ (search tests) (on-false _ (search tests) (on-false _ (search tests) (on-false _ (search tests) (on-true _ (search tests) refl))))))
     (λ c κs. search needs)
-    (λ c. on-false _ (search tests) (on-false _ (search tests) (on-false _ (search tests) (on-false _ (search tests) (on-false _ (search tests) (on-false _ (search tests) (on-true _ (search tests) refl)))))))
-    (λ c. on-false _ (search tests) (on-false _ (search tests) (on-false _ (search tests) (on-false _ (search tests) (on-false _ (search tests) (on-false _ (search tests) (on-false _ (search tests) refl))))))))
+    (λ c. on-false _ (search tests) (on-false _ (search tests) (on-false _ (search tests) (search picks))))
+    (λ c. on-false _ (search tests) (on-false _ (search tests) (on-false _ (search tests) (on-false _ (search tests) (search picks))))))

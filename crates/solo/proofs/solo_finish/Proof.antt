@@ -13,7 +13,7 @@ solo-finish-spec =
     (tie.spec
     (λ c κs. search needs)
     (λ c κs. search needs)
-    (λ c. ends-unsound _ _ _ _ (search tests) (c .turned-back .ensures))
+    (λ c. ends-unsound _ _ _ _ (search tests) (c .turned-away .ensures))
     (λ c κs. sound-means (c .before .before .args .f) (search tests) .rows-most)
     (λ c κs. search needs)
     (λ c κs. let z = sound-means (c .before .before .before .before .args .f) (search tests) in (z .box-most, z .station-most))
@@ -21,11 +21,11 @@ solo-finish-spec =
     (λ c.
     let p = c .before .before in
     ends-refused _ _ _ _ _ _ _ (search tests) (p .before .before .highest .ensures) (p .before .round-above .ensures) (p .refusal .ensures)
-    (c .before .if2 .taken) (c .turned-back2 .ensures))
+    (c .before .if2 .taken) (c .turned-away2 .ensures))
     (λ c. let d = front-means _ _ _ _ (sym (c .before .refusal .ensures) ∙ c .if2 .left) in omega arith)
     (λ c κs.
     let p = c .before .before in
-    (sound-means (p .before .before .before .before .args .f) (search tests) .box-most, p .round-above .ensures ∙ rw (p .before .highest .ensures)))
+    (sound-means (p .before .before .before .before .args .f) (search tests), p .round-above .ensures ∙ rw (p .before .highest .ensures)))
     (λ c.
     let p = c .before .before in
     ends-driven _ _ _ _ _ _ _ (search tests) (p .before .before .highest .ensures) (p .before .round-above .ensures) (p .refusal .ensures)

@@ -4,7 +4,7 @@ use native.Mathlib.Omega.{arith}
 use mathlib.Core.Path.{_≡_, sym, ap, _∙_}
 use lib.ListN.{length, take, drop, length-take, length-drop}
 use lib.Seq.{getD-take}
-use Rattle.tally.specs.Tally.{tallyOf, withBox}
+use Rattle.tally.specs.Tally.{tallyOf, oneMore}
 use Rattle.register.specs.declared.StorageBox.{StorageBox}
 use Rattle.tally.proofs.TallyLaws.{tally-at, tally-end, count-fits}
 use Rattle.tally.proofs.tally_floor.Statement.{statement}
@@ -58,7 +58,7 @@ loop-again c =
       (
         l .inv .1 .0,
         tally-at (take (a .n) (a .t1)) (l .left) (l .left - 1) _ (l .t) (c .with-box .result) next (omega arith) (l .inv .1 .1)
-            (c .with-box .ensures ∙ ap (λ (b : StorageBox). withBox b (l .t)) (sym (getD-take (a .n) (a .t1) (l .left - 1) _ inside))),
+            (c .with-box .ensures ∙ ap (λ (b : StorageBox). oneMore b (l .t)) (sym (getD-take (a .n) (a .t1) (l .left - 1) _ inside))),
       ),
     )
 

@@ -46,7 +46,7 @@ use denote.Triple.Entry.{Vals, onEntry}
 use denote.Triple.Spec.{Meets, tripleOf}
 use denote.Triple.Table.{entered, cited}
 use denote.Triple.Walked.{says, Stays, stay-none-slice, walkOf, goes-none-slice, Walks, ends-at, walked, walk-meets}
-use Rattle.tally.specs.Tally.{withBox, tallyOf}
+use Rattle.tally.specs.Tally.{oneMore, tallyOf}
 use Rattle.tally.proofs.TallyLaws.{tally-at, tally-end, count-fits}
 use Rattle.register.specs.declared.StorageBox.{StorageBox}
 use Rattle.tally.specs.declared.Tally.{Tally}
@@ -90,8 +90,8 @@ module _ {M : Type 1} (𝓤 : URA M) (H : Heap 𝓤) (A : Atoms 𝓤) (mem : Mem
   WithBox = tripleOf 𝓤 H A with-box.signature (with-box.spec 𝓤 H A mem run)
 
   -- of the callee's `ensured`, the clause alone
-  said : (b : StorageBox) (t r : Tally) → ent 𝓤 (ensured 𝓤 H A with-box.ended (with-box.clauses 𝓤 H A mem run) tt (b, (t, tt)) tt r) (fact 𝓤 (r ≡ withBox b t))
-  said b t r = exE 𝓤 _ (λ ws. snd∗ 𝓤 (sem 𝓤 H A (lasts with-box.ended tt (b, (t, tt)) ws)) (fact 𝓤 (r ≡ withBox b t)))
+  said : (b : StorageBox) (t r : Tally) → ent 𝓤 (ensured 𝓤 H A with-box.ended (with-box.clauses 𝓤 H A mem run) tt (b, (t, tt)) tt r) (fact 𝓤 (r ≡ oneMore b t))
+  said b t r = exE 𝓤 _ (λ ws. snd∗ 𝓤 (sem 𝓤 H A (lasts with-box.ended tt (b, (t, tt)) ws)) (fact 𝓤 (r ≡ oneMore b t)))
 
   abbrev to : StorageBox → Tally → WithBox .Ghost
   to b t = ((tt, tt, tt, (b, (t, tt)), (B′.lowered b ∷ [], (T′.lowered t ∷ [], tt))), tt)
@@ -191,7 +191,7 @@ module _ {M : Type 1} (𝓤 : URA M) (H : Heap 𝓤) (A : Atoms 𝓤) (W : Given
           use0 W (raw (WithBox 𝓤 H A mem run .pre (to 𝓤 H A mem run el t))) (goes 𝓤 H A mem run W el t ib is small) $
           calls-at-last ! fm (WithBox 𝓤 H A mem run) known (to 𝓤 H A mem run el t) (and-then ! (load ! (from ! (stop !)) (look ! 3 refl)) (and-then ! (load ! (from ! (stop !)) (look ! 13 refl)) (no-more !))) (λ v.
           use1 W (later (some (λ (r : Tally). (‵ ftrue ⊛ ‵ (T.the-row .own r (v ∷ []))) ⊛ raw (ensured 𝓤 H A with-box.ended (with-box.clauses 𝓤 H A mem run) tt (el, (t, tt)) tt r)))) (id⊢ 𝓤 _) $ await ! tt $ pick ! (λ r.
-          split ! $ move ! (1 ∷ []) $ use1 W (raw (fact 𝓤 (r ≡ withBox el t))) (said 𝓤 H A mem run el t r) $ heard ! (r ≡ withBox el t) (λ e′. split ! $ drop ! $
+          split ! $ move ! (1 ∷ []) $ use1 W (raw (fact 𝓤 (r ≡ oneMore el t))) (said 𝓤 H A mem run el t r) $ heard ! (r ≡ oneMore el t) (λ e′. split ! $ drop ! $
           facts ! T.the-row (Is T.the-row) (shows 𝓤 H A T.the-row) r (v ∷ []) (λ it.
           land-last ! (from ! (stop !)) (store ! 12 refl (LL.lawful T.the-type T′.the-laws 𝓤 H A W .typed r _ it .0)) $
           rewrite ! 12 (λ (u : Val). ‵ (fat fullShare T′.mir l₂ 0 u)) (ap only (LL.tells T.the-type T′.the-laws r (v ∷ []) it)) refl $

@@ -1,0 +1,26 @@
+-- Demand 3 on a drill file: what the stations of the floor that `player::play` hands back, and the program drill prints, show.
+use Prim.Native.Nat.{ℕ, _<_}
+use mathlib.Core.Path.{_≡_}
+use mathlib.Core.List.{List}
+use lib.ListN.{take}
+use Rattle.floor.specs.Floors.{stationAt}
+use Rattle.drill_file.specs.DrillFile.{boxesOf, stationsOf, recordsOf}
+use Rattle.player.specs.Play.{playedOf}
+use Rattle.agreement.specs.Words.{OfferedAt}
+use Rattle.agreement.specs.Demand.{firstFloor}
+
+-- the decided revision of the station t, 0 for none, after the file was played
+abbrev pub decidedIn : (file : List ℕ) (t : ℕ) → ℕ
+decidedIn file t = stationAt (playedOf file .floor) t .decided
+
+-- the records that were accepted
+abbrev pub acceptedIn : (file : List ℕ) → List (List ℕ)
+acceptedIn file = take (playedOf file .accepted) (recordsOf file)
+
+-- of every file, refused ones too. The proof is `played-file` in proofs/Files.
+pub record PlayedFile (s : List ℕ) : Type 0 where
+  -- "any two stations that decided have decided the same revision"
+  pub agreement : (t u : ℕ) → 0 < decidedIn s t → 0 < decidedIn s u → decidedIn s t ≡ decidedIn s u
+  -- "each decided revision was offered by a station": by a begin among the accepted records
+  pub validity : (t : ℕ) → 0 < decidedIn s t
+      → (i : ℕ) × (i < playedOf s .accepted) × OfferedAt (firstFloor (boxesOf s) (stationsOf s)) (acceptedIn s) (decidedIn s t) i

@@ -1,0 +1,4 @@
+pub mod Answers
+pub mod StationTests
+pub mod WaitingLaws
+pub mod Claims

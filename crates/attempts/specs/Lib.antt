@@ -1,0 +1,3 @@
+pub mod Stations
+pub mod Rows
+pub mod Claims

@@ -1,0 +1,54 @@
+-- Document 01, "The floor": a station, and the tests of its state.
+use Prim.Native.Nat.{ℕ}
+use mathlib.Core.Bool.{Bool, true, false}
+use lib.Dec.{eqb}
+use Rattle.requests.specs.Requests.{ofPhase}
+use Rattle.requests.specs.declared.Phase.{Phase}
+use Rattle.attempts.specs.declared.State.{State}
+use Rattle.attempts.specs.declared.State.the-variants.{Idle, Reading, Writing, Decided, Gone}
+use Rattle.attempts.specs.declared.Station.{Station}
+
+-- "On a new floor places not in use are 0, idle, not issued." It is also what a read past the end of an array gives by the language's
+-- own rule.
+abbrev pub station0 : Station
+station0 = record { state = Idle; last = 0; decided = 0 }
+
+-- the station x in another state; its last round and its decided revision stay
+abbrev pub withState : (x : Station) (state : State) → Station
+withState x state = record { state = state; last = x .last; decided = x .decided }
+
+-- "A station has a state that is idle, reading, writing, decided or gone, with the attempt it is in."
+abbrev pub isGone : (state : State) → Bool
+isGone Idle = false
+isGone (Reading a) = false
+isGone (Writing a) = false
+isGone (Decided a) = false
+isGone Gone = true
+
+-- reading, writing or decided
+abbrev pub isBusy : (state : State) → Bool
+isBusy Idle = false
+isBusy (Reading a) = true
+isBusy (Writing a) = true
+isBusy (Decided a) = true
+isBusy Gone = false
+
+-- reading in that attempt
+abbrev pub isReading : (state : State) (attempt : ℕ) → Bool
+isReading Idle attempt = false
+isReading (Reading a) attempt = eqb a attempt
+isReading (Writing a) attempt = false
+isReading (Decided a) attempt = false
+isReading Gone attempt = false
+
+-- writing in that attempt
+abbrev pub isWriting : (state : State) (attempt : ℕ) → Bool
+isWriting Idle attempt = false
+isWriting (Reading a) attempt = false
+isWriting (Writing a) attempt = eqb a attempt
+isWriting (Decided a) attempt = false
+isWriting Gone attempt = false
+
+-- in that phase of the attempt
+abbrev pub isIn : (phase : Phase) (state : State) (attempt : ℕ) → Bool
+isIn phase state attempt = ofPhase phase (isReading state attempt) (isWriting state attempt)

@@ -1,0 +1,59 @@
+// An attempt: its row, with what its two phases were answered, and the station that is in it.
+use register::Register;
+use requests::Requests;
+
+mod rows;
+mod states;
+
+pub use rows::comes;
+pub use rows::issue;
+pub use rows::new_row;
+pub use rows::requests_of;
+pub use rows::revision_of;
+pub use rows::serve;
+pub use rows::unused;
+pub use rows::waits;
+pub use rows::with_requests;
+pub use states::busy;
+pub use states::gone;
+pub use states::in_phase;
+pub use states::with_state;
+
+// What a station does, with the attempt that it is in.
+pub enum State {
+    Idle,
+    Reading(u8),
+    Writing(u8),
+    Decided(u8),
+    Gone,
+}
+
+// A station: the paper's client. Its last round and its decided revision (0: none) survive its going.
+pub struct Station {
+    pub state: State,
+    pub last: u16,
+    pub decided: u32,
+}
+
+// What a box answered to a read: its write rank and value.
+pub struct Answer {
+    pub rank: u32,
+    pub value: u32,
+}
+
+// The row of an attempt (the paper's invocation of decide with one rank): its two phases, and what its reads were answered.
+pub struct Row {
+    pub station: u8,
+    pub rank: u32,
+    pub offer: u32,
+    pub written: u32,
+    pub read: Requests,
+    pub answers: [Answer; 9],
+    pub write: Requests,
+}
+
+// The row and the register after the box's routine ran.
+pub struct Served {
+    pub row: Row,
+    pub register: Register,
+}

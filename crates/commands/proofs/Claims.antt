@@ -1,0 +1,7 @@
+-- The claims on records and outcomes, proved.
+use Rattle.commands.specs.Claims.{CommandClaims}
+use Rattle.commands.proofs.Encodings.{decode-encode, encode-length, encode-bytes}
+use Rattle.commands.proofs.OutcomeLaws.{accepted-number}
+
+pub command-claims : CommandClaims
+command-claims = record { decodes = decode-encode; eight = encode-length; bytes = encode-bytes; accepted = accepted-number }

@@ -1,0 +1,4 @@
+pub mod Ranges
+pub mod Encodings
+pub mod OutcomeLaws
+pub mod Claims

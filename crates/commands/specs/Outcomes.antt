@@ -1,0 +1,65 @@
+-- Document 01, "Steps": "Each accepted step says one thing that came of it"; "A refusal gives its number."
+use Prim.Native.Nat.{ℕ}
+use mathlib.Core.Bool.{Bool, true, false}
+use Rattle.commands.specs.declared.Outcome.{Outcome}
+use Rattle.commands.specs.declared.Outcome.the-variants.{Begun, Served, Received, Aborted, WriteIssued, Decided, Stopped, Gone, Refused}
+
+-- Document 01's number for each case of an outcome: "A refusal gives its number", 0 where the step was accepted.
+abbrev pub numberOf : (o : Outcome) → ℕ
+numberOf (Begun a) = 0
+numberOf (Served a) = 0
+numberOf (Received a) = 0
+numberOf (Aborted a) = 0
+numberOf (WriteIssued v) = 0
+numberOf (Decided v) = 0
+numberOf (Stopped b) = 0
+numberOf (Gone s) = 0
+numberOf (Refused k) = k
+
+-- Document 01's value for each case: "begun, served, received or aborted with the attempt; write issued or decided with the
+-- revision; stopped with the box; gone with the station". A refusal has none.
+abbrev pub valueOf : (o : Outcome) → ℕ
+valueOf (Begun a) = a
+valueOf (Served a) = a
+valueOf (Received a) = a
+valueOf (Aborted a) = a
+valueOf (WriteIssued v) = v
+valueOf (Decided v) = v
+valueOf (Stopped b) = b
+valueOf (Gone s) = s
+valueOf (Refused k) = 0
+
+abbrev pub isRefused : (o : Outcome) → Bool
+isRefused (Begun a) = false
+isRefused (Served a) = false
+isRefused (Received a) = false
+isRefused (Aborted a) = false
+isRefused (WriteIssued v) = false
+isRefused (Decided v) = false
+isRefused (Stopped b) = false
+isRefused (Gone s) = false
+isRefused (Refused k) = true
+
+-- an attempt began
+abbrev pub isBegun : (o : Outcome) → Bool
+isBegun (Begun a) = true
+isBegun (Served a) = false
+isBegun (Received a) = false
+isBegun (Aborted a) = false
+isBegun (WriteIssued v) = false
+isBegun (Decided v) = false
+isBegun (Stopped b) = false
+isBegun (Gone s) = false
+isBegun (Refused k) = false
+
+-- an attempt ended: its station decided, or it aborted
+abbrev pub isEnd : (o : Outcome) → Bool
+isEnd (Begun a) = false
+isEnd (Served a) = false
+isEnd (Received a) = false
+isEnd (Aborted a) = true
+isEnd (WriteIssued v) = false
+isEnd (Decided v) = true
+isEnd (Stopped b) = false
+isEnd (Gone s) = false
+isEnd (Refused k) = false

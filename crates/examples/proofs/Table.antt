@@ -1,0 +1,28 @@
+-- The claim on all rows of the table, by computation. Where a row fails, the refusal shows its letter, what was expected and what
+-- the definitions give.
+use mathlib.Core.Path.{refl}
+use lib.Count.{ones, onesIn}
+use Rattle.base.specs.Choice.{if_then_else_}
+use Rattle.base.specs.Numbers.{sizesRight}
+use Rattle.base.specs.Records.{recordAt, recordsFrom}
+use Rattle.base.specs.Mask.{bit, setBit, countBelow}
+use Rattle.register.specs.Register.{rmwRead, rmwWrite, takes}
+use Rattle.requests.specs.Requests.{standing, waitingBelow, atQuorum, stillYes, allYes}
+use Rattle.floor.specs.Sound.{stationsBelow, soundOf}
+use Rattle.floor.specs.Floors.{newFloorOf}
+use Rattle.commands.specs.Commands.{allZero, between, phaseFrom, spared, commandOf}
+use Rattle.attempts.specs.Rows.{newRow, better, bestOf, revisionFrom, revisionOf, issued}
+use Rattle.floor.specs.Refusals.{beginRefusal, serveRefusal, deliverRefusal, stopRefusal, leaveRefusal}
+use Rattle.floor.specs.Effects.{writeEndedOn, deliveredOn}
+use Rattle.floor.specs.Step.{playOf, applyOf, stepOf}
+use Rattle.floor.specs.Runs.{floorAt, stopsAt, runFrom, playedOn}
+use Rattle.solo.specs.Plan.{highestRank, roundAbove, answeringFrom, lowest, exchange, exchanges, exchangesOf}
+use Rattle.solo.specs.Solo.{frontRefusal, soloRefusal, soloOf}
+use Rattle.drill_file.specs.DrillFile.{wrongSize, wrongVersion, wrongFloor, wrongByte, wrongBytes, wrongLabel, wrongRecords, fileRefusal, labelOf}
+use Rattle.player.specs.Play.{playedOf, lastRank}
+use Rattle.examples.specs.WorkedRuns.{saidFrom, answersFrom, linesFrom}
+use Rattle.examples.specs.Table.{Claim}
+
+pub examples-hold : Claim
+unfolding if_then_else_ sizesRight recordAt recordsFrom bit setBit countBelow ones onesIn rmwRead rmwWrite takes standing waitingBelow atQuorum stillYes allYes stationsBelow soundOf newFloorOf allZero between phaseFrom spared commandOf newRow better bestOf revisionFrom revisionOf issued beginRefusal serveRefusal deliverRefusal stopRefusal leaveRefusal writeEndedOn deliveredOn playOf applyOf stepOf floorAt stopsAt runFrom playedOn wrongSize wrongVersion wrongFloor wrongByte wrongBytes wrongLabel wrongRecords fileRefusal labelOf playedOf lastRank highestRank roundAbove answeringFrom lowest exchange exchanges exchangesOf frontRefusal soloRefusal soloOf saidFrom answersFrom linesFrom
+examples-hold = (refl, (refl, (refl, (refl, (refl, (refl, (refl, (refl, (refl, (refl, (refl, (refl, (refl, (refl, (refl, (refl, (refl, (refl, (refl, tt)))))))))))))))))))

@@ -1,0 +1,40 @@
+-- The claims on steps and runs, proved.
+use Rattle.commands.specs.Commands.{commandOf}
+use Rattle.floor.specs.Step.{stepOf}
+use Rattle.floor.specs.Claims.{StepClaims, RunClaims}
+use Rattle.floor.proofs.Keeps.{step-refused-same, new-sound, new-lengths, step-keeps, step-lengths, step-sizes}
+use Rattle.floor.proofs.Numbered.{refused-number, step-number}
+use Rattle.floor.proofs.Outcomes.{step-means}
+use Rattle.floor.proofs.Moves.{apply-station, apply-box, apply-row}
+use Rattle.floor.proofs.BoxLaws.{stopped-stays, box-grown}
+use Rattle.floor.proofs.StationLaws.{gone-stays, last-from, decided-from}
+use Rattle.floor.proofs.RowLaws.{apply-used, row-same, step-counted}
+use Rattle.floor.proofs.RunMeans.{run-ran, run-played}
+
+pub step-claims : StepClaims
+unfolding stepOf
+step-claims = record {
+  refused-same = step-refused-same;
+  refused-number = λ f r. refused-number f (commandOf r);
+  number = step-number;
+  new-sound = new-sound;
+  new-lengths = new-lengths;
+  sound = step-keeps;
+  lengths = step-lengths;
+  sizes = step-sizes;
+  means = step-means;
+  station = λ f r. apply-station f (commandOf r);
+  storage = λ f r. apply-box f (commandOf r);
+  row = λ f r. apply-row f (commandOf r);
+  stopped-stays = λ f r. stopped-stays f (commandOf r);
+  gone-stays = λ f r. gone-stays f (commandOf r);
+  grown = λ f r. box-grown f (commandOf r);
+  last-from = λ f r. last-from f (commandOf r);
+  decided-from = λ f r. decided-from f (commandOf r);
+  used = λ f r. apply-used f (commandOf r);
+  attempt = λ f r. row-same f (commandOf r);
+  counted = step-counted;
+}
+
+pub run-claims : RunClaims
+run-claims = record { ran = run-ran; played = run-played }

@@ -1,0 +1,165 @@
+-- The parts that the loop reads and stores, and the law that joins them to the specification: on a sound floor a step is refused alike
+-- on its parts and on the floor, and one accepted leads to the same floor. No promise speaks of the parts.
+use Prim.Native.Nat.{ℕ, _<_}
+use native.Mathlib.Omega.{arith}
+use mathlib.Core.Path.{_≡_, refl, sym, ap, _∙_}
+use mathlib.Core.Bool.{Bool, true, false}
+use lib.Dec.{eqb}
+use lib.ListN.{set}
+use lib.Seq.{set-getD}
+use borrow.Author.Tests.{leb-false, eqb-true, eqb-false}
+use Rattle.base.specs.Choice.{if_then_else_}
+use Rattle.base.proofs.Cases.{clash}
+use Rattle.base.proofs.Choices.{by-test}
+use Rattle.register.specs.Register.{box0}
+use Rattle.requests.specs.Requests.{ofPhase}
+use Rattle.requests.specs.declared.Phase.{Phase}
+use Rattle.requests.specs.declared.Phase.the-variants.{Read, Write}
+use Rattle.commands.specs.Outcomes.{isRefused}
+use Rattle.commands.specs.declared.Command.{Command}
+use Rattle.commands.specs.declared.Command.the-variants.{Begin, Serve, Deliver, Stop, Leave, Malformed}
+use Rattle.commands.specs.declared.Outcome.the-variants.{Refused}
+use Rattle.attempts.specs.Stations.{station0}
+use Rattle.attempts.specs.Rows.{row0, rowHeard}
+use Rattle.attempts.specs.declared.Row.{Row}
+use Rattle.parts.specs.Parts.{placeIn, attemptIn, boxIn, stationIn, beginIn, serveIn, deliverIn, stopIn, leaveIn, refusalIn, begun, served, receivedOnly, readEnded, writeEnded, delivered, turnedBack, effectIn, changeIn}
+use Rattle.parts.specs.declared.Parts.{Parts}
+use Rattle.parts.specs.declared.Changed.{Changed}
+use Rattle.parts.proofs.PlaceLaws.{place-same}
+use Rattle.floor.specs.Floors.{boxAt, stationAt, rowAt}
+use Rattle.floor.specs.Refusals.{beginRefusal, serveRefusal, deliverRefusal, stopRefusal, leaveRefusal, refusalOn}
+use Rattle.floor.specs.Effects.{heardRow, receivedOn, readEndedOn, writeEndedOn, deliveredOn, effectOn}
+use Rattle.floor.specs.Step.{applyOf}
+use Rattle.floor.specs.Claims.{Sound}
+use Rattle.floor.specs.declared.Floor.{Floor}
+use Rattle.floor.specs.declared.Stepped.{Stepped}
+use Rattle.floor.proofs.RefusalLaws.{begin-means, serve-means, deliver-means, stop-means, leave-means}
+use Rattle.floor.proofs.StepLaws.{apply-refused, apply-accepted}
+
+-- the places of the row, the box and the station that a command names on a floor
+abbrev pub rowPlace : Floor → Command → ℕ
+rowPlace f c = placeIn 64 (attemptIn (f .used) c)
+
+abbrev pub boxPlace : Command → ℕ
+boxPlace c = placeIn 9 (boxIn c)
+
+abbrev pub stationPlace : Floor → Command → ℕ
+stationPlace f c = placeIn 16 (stationIn (rowAt f (rowPlace f c) .station) c)
+
+-- what a step looks at, and the floor with these parts replaced: no step looks at or changes another row, box or station
+abbrev pub look : Floor → Command → Parts
+look f c = record { n = f .n; m = f .m; used = f .used; row = rowAt f (rowPlace f c); storage = boxAt f (boxPlace c); station = stationAt f (stationPlace f c) }
+
+abbrev pub put : Floor → Command → Parts → Floor
+put f c p =
+    record {
+      n = f .n;
+      m = f .m;
+      used = p .used;
+      boxes = set (f .boxes) (boxPlace c) (p .storage);
+      stations = set (f .stations) (stationPlace f c) (p .station);
+      rows = set (f .rows) (rowPlace f c) (p .row);
+    }
+
+abbrev pub accepted : Floor → Command → Changed → Stepped
+accepted f c y = record { floor = put f c (y .parts); outcome = y .outcome }
+
+-- the parts at a row, a box and a station
+abbrev pub partsAt : Floor → ℕ → ℕ → ℕ → Parts
+partsAt f a b s = record { n = f .n; m = f .m; used = f .used; row = rowAt f a; storage = boxAt f b; station = stationAt f s }
+
+-- two choices by one test that agree where it fails
+same-else : {A : Type 0} (t : Bool) (k x y : A) → (t ≡ false → x ≡ y) → (if t then k else x) ≡ (if t then k else y)
+unfolding if_then_else_
+same-else true k x y h = refl
+same-else false k x y h = h refl
+
+-- the same after two tests
+same-past : (t u : Bool) (k j x y : ℕ) → (t ≡ false → u ≡ false → x ≡ y) → (if t then k else if u then j else x) ≡ (if t then k else if u then j else y)
+same-past t u k j x y h = same-else t k (if u then j else x) (if u then j else y) (λ e. same-else u j x y (h e))
+
+-- a function of a choice, where the tests agree and each branch leads to the other's
+through : {A B : Type 0} (g : A → B) {t u : Bool} {x y : A} {v w : B} → t ≡ u → g x ≡ v → g y ≡ w → g (if t then x else y) ≡ (if u then v else w)
+unfolding if_then_else_
+through g {t = true} e p q = rw (← e) p
+through g {t = false} e p q = rw (← e) q
+
+module _ (f : Floor) (z : Sound f) where
+  at-station : (s : ℕ) → s < f .m → placeIn 16 s ≡ s
+  at-station s h = place-same 16 s (omega (arith, z .station-most))
+
+  at-box : (b : ℕ) → b < f .n → placeIn 9 b ≡ b
+  at-box b h = place-same 9 b (omega (arith, z .box-most))
+
+  at-row : (a : ℕ) → a < f .used → placeIn 64 a ≡ a
+  at-row a h = place-same 64 a (omega (arith, z .rows-most))
+
+  at-owner : (a : ℕ) → a < f .used → placeIn 16 (rowAt f a .station) ≡ rowAt f a .station
+  at-owner a h = at-station (rowAt f a .station) (z .stations a h)
+
+  -- a step is refused alike
+  pub refusal-join : (c : Command) → refusalIn (look f c) c ≡ refusalOn f c
+  unfolding beginIn serveIn deliverIn stopIn leaveIn beginRefusal serveRefusal deliverRefusal stopRefusal leaveRefusal
+  refusal-join (Begin s round v) = same-else _ _ _ _ (λ h. rw (at-station s (leb-false (f .m) s h)))
+  refusal-join (Serve p a b) = same-past _ _ _ _ _ _ (λ h l. rw (at-row a (leb-false (f .used) a h), at-box b (leb-false (f .n) b l)))
+  refusal-join (Deliver p a b) = same-past _ _ _ _ _ _ (λ h _. rw (at-row a (leb-false (f .used) a h), at-owner a (leb-false (f .used) a h)))
+  refusal-join (Stop b) = same-else _ _ _ _ (λ h. rw (at-box b (leb-false (f .n) b h)))
+  refusal-join (Leave s) = same-else _ _ _ _ (λ h. rw (at-station s (leb-false (f .m) s h)))
+  refusal-join Malformed = refl
+
+  -- and leads to the same floor
+  module _ (a b : ℕ) (h : a < f .used) where
+    abbrev stores : Phase → Changed → Stepped
+    stores p y = accepted f (Deliver p a b) y
+
+    abbrev heardIn : Phase → Row
+    heardIn p = rowHeard p (look f (Deliver p a b) .row) b
+
+    received : (p : Phase) → stores p (receivedOnly (look f (Deliver p a b)) a (heardIn p)) ≡ receivedOn f p a b
+    received p = rw (at-row a h, at-owner a h, set-getD (f .boxes) _ box0, set-getD (f .stations) _ station0)
+
+    ended : (p : Phase) → stores p (ofPhase p (readEnded (look f (Deliver p a b)) a (heardIn p)) (writeEnded (look f (Deliver p a b)) a (heardIn p)))
+        ≡ ofPhase p (readEndedOn f a (heardRow f p a b)) (writeEndedOn f a (heardRow f p a b))
+    unfolding readEnded writeEnded writeEndedOn
+    ended Read = rw (at-row a h, at-owner a h, set-getD (f .boxes) _ box0)
+    ended Write =
+        through (stores Write) (rw (at-row a h)) (rw (at-row a h, at-owner a h, set-getD (f .boxes) _ box0)) (rw (at-row a h, at-owner a h, set-getD (f .boxes) _ box0))
+
+    deliver-join : (p : Phase) → stores p (delivered (look f (Deliver p a b)) p a b) ≡ deliveredOn f p a b
+    unfolding delivered deliveredOn
+    deliver-join p =
+        through (stores p) (rw (at-row a h, at-owner a h)) (through (stores p) (rw (at-row a h)) (ended p) (received p)) (received p)
+
+  pub effect-join : (c : Command) → refusalOn f c ≡ 0 → accepted f c (effectIn (look f c) c) ≡ effectOn f c
+  unfolding begun served
+  effect-join (Begin s round v) e =
+      let d = begin-means f s round v e in
+      rw (at-station s (d .station), place-same 64 (f .used) (d .row), set-getD (f .boxes) _ box0)
+  effect-join (Serve p a b) e = let d = serve-means f p a b e in rw (at-box b (d .box), at-row a (d .used), set-getD (f .stations) _ station0)
+  effect-join (Deliver p a b) e = deliver-join a b (deliver-means f p a b e .used) p
+  effect-join (Stop b) e = rw (at-box b (stop-means f b e .box), set-getD (f .stations) _ station0, set-getD (f .rows) _ row0)
+  effect-join (Leave s) e = rw (at-station s (leave-means f s e .station), set-getD (f .boxes) _ box0, set-getD (f .rows) _ row0)
+  effect-join Malformed e = absurd (omega (arith, e))
+
+  -- the step on the parts says what the step on the floor says, and where it was accepted, the parts stored make its floor
+  pub record Joined (c : Command) (y : Changed) : Type 0 where
+    pub said : y .outcome ≡ applyOf f c .outcome
+    pub left : isRefused (y .outcome) ≡ false → put f c (y .parts) ≡ applyOf f c .floor
+
+  refused-join : (c : Command) → ¬ (refusalOn f c ≡ 0) → Joined c (turnedBack (look f c) (refusalIn (look f c) c))
+  refused-join c e = record {
+    said = ap Refused (refusal-join c) ∙ sym (ap (λ (x : Stepped). x .outcome) (apply-refused f c z e));
+    left = λ r. clash refl r;
+  }
+
+  accepted-join : (c : Command) → refusalOn f c ≡ 0 → Joined c (effectIn (look f c) c)
+  accepted-join c e =
+      let q = effect-join c e ∙ sym (apply-accepted f c z e) in
+      record { said = ap (λ (x : Stepped). x .outcome) q; left = λ _. ap (λ (x : Stepped). x .floor) q }
+
+  pub change-join : (c : Command) → Joined c (changeIn (look f c) c)
+  unfolding changeIn
+  change-join c =
+      by-test (Joined c) (eqb (refusalIn (look f c) c) 0) _ _
+      (λ t. accepted-join c (sym (refusal-join c) ∙ eqb-true _ _ t))
+      (λ t. refused-join c (λ e. eqb-false _ _ t (refusal-join c ∙ e)))

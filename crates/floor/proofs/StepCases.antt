@@ -1,0 +1,112 @@
+-- What a step can be: turned back, or one of eight, each with the tests that it passed. A law of steps is then a function by cases.
+use Prim.Native.Nat.{ℕ}
+use native.Mathlib.Omega.{arith}
+use mathlib.Core.Path.{_≡_, refl}
+use mathlib.Core.Logic.{_⊎_, inl, inr}
+use mathlib.Core.Bool.{true, false}
+use mathlib.Core.List.{List}
+use lib.Dec.{eqb}
+use borrow.Author.Tests.{eqb-true, eqb-false}
+use Rattle.base.proofs.Choices.{by-test}
+use Rattle.floor.specs.Floors.{rowAt, ownerAt, withRow}
+use Rattle.attempts.specs.Stations.{isReading, isWriting, isIn}
+use Rattle.floor.specs.Sound.{soundOf}
+use Rattle.floor.specs.Claims.{Sound, CanBegin, CanServe, CanDeliver, CanStop, CanLeave, TurnedBack}
+use Rattle.commands.specs.Commands.{commandOf}
+use Rattle.attempts.specs.Rows.{revisionOf, requestsHeard}
+use Rattle.floor.specs.Refusals.{refusalOn}
+use Rattle.floor.specs.Effects.{heardRow, stepped, afterBegin, afterServe, afterIssue, afterDecision, afterAbort, afterStop, afterLeave, readEndedOn, writeEndedOn, deliveredOn, effectOn}
+use Rattle.commands.specs.Outcomes.{isRefused}
+use Rattle.floor.specs.Step.{refused, playOf, applyOf, stepOf}
+use Rattle.floor.specs.declared.Floor.{Floor}
+use Rattle.floor.specs.declared.Stepped.{Stepped}
+use Rattle.commands.specs.declared.Outcome.the-variants as said
+use Rattle.commands.specs.declared.Command.{Command}
+use Rattle.commands.specs.declared.Command.the-variants.{Begin, Serve, Deliver, Stop, Leave, Malformed}
+use Rattle.floor.proofs.SoundLaws.{sound-means}
+use Rattle.requests.specs.Requests.{ofPhase, atQuorum, allYes}
+use Rattle.requests.specs.declared.Phase.{Phase}
+use Rattle.requests.specs.declared.Phase.the-variants.{Read, Write}
+use Rattle.base.proofs.Cases.{clash}
+use Rattle.floor.proofs.RefusalLaws.{begin-means, serve-means, deliver-means, stop-means, leave-means, refusal-numbered}
+
+pub data StepCase (f : Floor) : Command → Stepped → Type 0 where
+  turned : {c : Command} (k : ℕ) → TurnedBack f c k → StepCase f c (refused f k)
+  began : {s round v : ℕ} → Sound f → CanBegin f s round v → StepCase f (Begin s round v) (stepped (afterBegin f s round v) (said.Begun (f .used)))
+  served : {p : Phase} {a b : ℕ} → Sound f → CanServe f p a b → StepCase f (Serve p a b) (stepped (afterServe f p a b) (said.Served a))
+  heard : {p : Phase} {a b : ℕ} → Sound f → CanDeliver f p a b
+      → (isIn p (ownerAt f a .state) a ≡ false) ⊎ (atQuorum (requestsHeard p (rowAt f a) b) (f .n) ≡ false)
+      → StepCase f (Deliver p a b) (stepped (withRow f a (heardRow f p a b)) (said.Received a))
+  issued : {a b : ℕ} → Sound f → CanDeliver f Read a b → isReading (ownerAt f a .state) a ≡ true → atQuorum (heardRow f Read a b .read) (f .n) ≡ true
+      → StepCase f (Deliver Read a b) (stepped (afterIssue f a (heardRow f Read a b) (revisionOf (heardRow f Read a b) (f .n))) (said.WriteIssued (revisionOf (heardRow f Read a b) (f .n))))
+  decided : {a b : ℕ} → Sound f → CanDeliver f Write a b → isWriting (ownerAt f a .state) a ≡ true → atQuorum (heardRow f Write a b .write) (f .n) ≡ true
+      → allYes (heardRow f Write a b .write) (f .n) ≡ true
+      → StepCase f (Deliver Write a b) (stepped (afterDecision f a (heardRow f Write a b)) (said.Decided (rowAt f a .written)))
+  aborted : {a b : ℕ} → Sound f → CanDeliver f Write a b → isWriting (ownerAt f a .state) a ≡ true → atQuorum (heardRow f Write a b .write) (f .n) ≡ true
+      → allYes (heardRow f Write a b .write) (f .n) ≡ false
+      → StepCase f (Deliver Write a b) (stepped (afterAbort f a (heardRow f Write a b)) (said.Aborted a))
+  stopped : {b : ℕ} → Sound f → CanStop f b → StepCase f (Stop b) (stepped (afterStop f b) (said.Stopped b))
+  left : {s : ℕ} → Sound f → CanLeave f s → StepCase f (Leave s) (stepped (afterLeave f s) (said.Gone s))
+
+-- an accepted step of each kind on a sound floor
+module _ (f : Floor) (z : Sound f) where
+  module _ (a b : ℕ) where
+    abbrev Leads : Phase → Stepped → Type 0
+    Leads p y = StepCase f (Deliver p a b) y
+
+    -- the q-th answer of a phase, for a station that is in it
+    ended-case : (p : Phase) → CanDeliver f p a b → isIn p (ownerAt f a .state) a ≡ true → atQuorum (requestsHeard p (rowAt f a) b) (f .n) ≡ true
+        → Leads p (ofPhase p (readEndedOn f a (heardRow f p a b)) (writeEndedOn f a (heardRow f p a b)))
+    unfolding writeEndedOn
+    ended-case Read d e q = issued z d e q
+    ended-case Write d e q = by-test (Leads Write) _ _ _ (λ t. decided z d e q t) (λ t. aborted z d e q t)
+
+    deliver-case : (p : Phase) → CanDeliver f p a b → Leads p (deliveredOn f p a b)
+    unfolding deliveredOn
+    deliver-case p d = by-test (Leads p) _ _ _ (λ e. by-test (Leads p) _ _ _ (ended-case p d e) (λ q. heard z d (inr q))) (λ e. heard z d (inl e))
+
+  accepted-case : (c : Command) → refusalOn f c ≡ 0 → StepCase f c (effectOn f c)
+  accepted-case (Begin s round v) e = began z (begin-means f s round v e)
+  accepted-case (Serve p a b) e = served z (serve-means f p a b e)
+  accepted-case (Deliver p a b) e = deliver-case a b p (deliver-means f p a b e)
+  accepted-case (Stop b) e = stopped z (stop-means f b e)
+  accepted-case (Leave s) e = left z (leave-means f s e)
+  accepted-case Malformed e = absurd (omega (arith, e))
+
+pub apply-case : (f : Floor) (c : Command) → StepCase f c (applyOf f c)
+unfolding applyOf playOf
+apply-case f c =
+    by-test P (soundOf f) _ _
+    (λ e. by-test P (eqb (refusalOn f c) 0) _ _ (λ q. accepted-case f (sound-means f e) c (eqb-true _ _ q))
+    (λ q. turned (refusalOn f c) (elim (refusal-numbered f c) [
+      | inl h ↦ absurd (eqb-false _ _ q h)
+      | inr h ↦ record { least = omega (arith, h .0); most = h .1; cause = inr (e, refl) }
+    ])))
+    (λ e. turned 6 (record { least = omega arith; most = omega arith; cause = inl (e, refl) }))
+  where
+    P : Stepped → Type 0
+    P = StepCase f c
+
+-- a step that says refused was turned back
+pub record Refusal (f : Floor) (c : Command) (s : Stepped) : Type 0 where
+  pub number : ℕ
+  pub cause : TurnedBack f c number
+  pub is : s ≡ refused f number
+
+refusal : {f : Floor} {c : Command} {s : Stepped} → StepCase f c s → isRefused (s .outcome) ≡ true → Refusal f c s
+refusal (turned k t) e = record { number = k; cause = t; is = refl }
+refusal (began z d) e = clash e refl
+refusal (served z d) e = clash e refl
+refusal (heard z d q) e = clash e refl
+refusal (issued z d r q) e = clash e refl
+refusal (decided z d r q t) e = clash e refl
+refusal (aborted z d r q t) e = clash e refl
+refusal (stopped z d) e = clash e refl
+refusal (left z d) e = clash e refl
+
+pub apply-refusal : (f : Floor) (c : Command) → isRefused (applyOf f c .outcome) ≡ true → Refusal f c (applyOf f c)
+apply-refusal f c = refusal (apply-case f c)
+
+pub step-case : (f : Floor) (r : List ℕ) → StepCase f (commandOf r) (stepOf f r)
+unfolding stepOf
+step-case f r = apply-case f (commandOf r)

@@ -1,0 +1,311 @@
+-- What is claimed of steps and of runs. The proofs are `step-claims` and `run-claims` in proofs/Claims.
+use Prim.Native.Nat.{ℕ, suc, _+_, _<_, _≤_}
+use mathlib.Core.Path.{_≡_}
+use mathlib.Core.Logic.{_⊎_}
+use mathlib.Core.Bool.{true, false}
+use mathlib.Core.List.{List, _∷_}
+use lib.ListN.{length}
+use Rattle.base.specs.Quorum.{indicator}
+use Rattle.base.specs.Mask.{countBelow}
+use Rattle.register.specs.Register.{withRegister}
+use Rattle.register.specs.declared.Register.{Register}
+use Rattle.register.specs.declared.StorageBox.{StorageBox}
+use Rattle.requests.specs.Requests.{standingOf, isWaiting, isOnTheWay, atQuorum, allYes}
+use Rattle.requests.specs.declared.Phase.{Phase}
+use Rattle.requests.specs.declared.Phase.the-variants.{Read, Write}
+use Rattle.commands.specs.Commands.{commandOf}
+use Rattle.commands.specs.Outcomes.{numberOf, isRefused, isBegun}
+use Rattle.commands.specs.declared.Command.{Command}
+use Rattle.commands.specs.declared.Command.the-variants.{Begin, Serve, Deliver, Stop, Leave}
+use Rattle.commands.specs.declared.Outcome.{Outcome}
+use Rattle.commands.specs.declared.Outcome.the-variants.{Begun, Served, Received, Aborted, WriteIssued, Decided, Stopped, Gone, Refused}
+use Rattle.attempts.specs.Stations.{isGone, isBusy, isReading, isWriting, withState}
+use Rattle.attempts.specs.Rows.{requestsOf, newRow, revisionOf, rowServed, registerServed}
+use Rattle.attempts.specs.Rows as rows
+use Rattle.attempts.specs.declared.State.the-variants as state
+use Rattle.attempts.specs.declared.Station.{Station}
+use Rattle.attempts.specs.declared.Row.{Row}
+use Rattle.floor.specs.Floors.{boxAt, stationAt, rowAt, ownerAt, newFloorOf}
+use Rattle.floor.specs.Sound.{soundOf}
+use Rattle.floor.specs.Refusals.{refusalOn}
+use Rattle.floor.specs.Effects.{heardRow, beginner, decider}
+use Rattle.floor.specs.Step.{stepOf, refusalOf}
+use Rattle.floor.specs.Runs.{floorAt, saidAt, stopsAt, runOf, playedOn}
+use Rattle.floor.specs.declared.Floor.{Floor}
+use Rattle.floor.specs.declared.Until.{Until}
+use Rattle.floor.specs.declared.Ran.{Ran}
+use Rattle.floor.specs.declared.Played.{Played}
+
+-- Refusal 6 does not apply, as facts.
+pub record Sound (f : Floor) : Type 0 where
+  pub box-least : 1 ≤ f .n
+  pub box-most : f .n ≤ 9
+  pub station-least : 1 ≤ f .m
+  pub station-most : f .m ≤ 16
+  pub rows-most : f .used ≤ 64
+  pub stations : (a : ℕ) → a < f .used → rowAt f a .station < f .m
+
+-- The arrays have their lengths: those of the types, which no step changes.
+pub record Lengths (f : Floor) : Type 0 where
+  pub boxes : length (f .boxes) ≡ 9
+  pub stations : length (f .stations) ≡ 16
+  pub rows : length (f .rows) ≡ 64
+  pub slots : (p : Phase) (a : ℕ) → a < 64 → length (requestsOf p (rowAt f a) .slots) ≡ 9
+  pub answers : (a : ℕ) → a < 64 → length (rowAt f a .answers) ≡ 9
+
+-- The numbers of boxes and stations are the same.
+pub record SameSizes (f g : Floor) : Type 0 where
+  pub boxes : g .n ≡ f .n
+  pub stations : g .m ≡ f .m
+
+-- What a step of each kind asks of the floor: the tests that it passes where its refusal is 0.
+module _ (f : Floor) where
+  pub record CanBegin (s round v : ℕ) : Type 0 where
+    pub station : s < f .m
+    pub here : isGone (stationAt f s .state) ≡ false
+    pub free : isBusy (stationAt f s .state) ≡ false
+    pub offer : 0 < v
+    pub later : stationAt f s .last < round
+    pub row : f .used < 64
+
+  -- of a read or a write
+  pub record CanServe (p : Phase) (a b : ℕ) : Type 0 where
+    pub used : a < f .used
+    pub box : b < f .n
+    pub answers : boxAt f b .stopped ≡ false
+    pub waits : isWaiting (standingOf (requestsOf p (rowAt f a)) b) ≡ true
+
+  pub record CanDeliver (p : Phase) (a b : ℕ) : Type 0 where
+    pub used : a < f .used
+    pub box : b < f .n
+    pub here : isGone (ownerAt f a .state) ≡ false
+    pub arrives : isOnTheWay (standingOf (requestsOf p (rowAt f a)) b) ≡ true
+
+  pub record CanStop (b : ℕ) : Type 0 where
+    pub box : b < f .n
+    pub answers : boxAt f b .stopped ≡ false
+
+  pub record CanLeave (s : ℕ) : Type 0 where
+    pub station : s < f .m
+    pub here : isGone (stationAt f s .state) ≡ false
+
+-- A refusal's number and its cause.
+pub record TurnedBack (f : Floor) (c : Command) (k : ℕ) : Type 0 where
+  pub least : 6 ≤ k
+  pub most : k ≤ 14
+  pub cause : ((soundOf f ≡ false) × (k ≡ 6)) ⊎ ((soundOf f ≡ true) × (k ≡ refusalOn f c))
+
+-- What each thing said means: the step with the command c led from the floor f to the floor g and said it. Of which command it came,
+-- which tests that passed, and what then stands where the step stored.
+module _ (f : Floor) (c : Command) (g : Floor) where
+  pub record BegunBy (a : ℕ) : Type 0 where
+    pub station : ℕ
+    pub round : ℕ
+    pub offer : ℕ
+    pub command : c ≡ Begin station round offer
+    pub may : CanBegin f station round offer
+    pub next : a ≡ f .used
+    pub row : rowAt g (f .used) ≡ newRow (f .n) station round offer
+    pub beginning : stationAt g station ≡ beginner f station round
+
+  pub record ServedBy (a : ℕ) : Type 0 where
+    pub phase : Phase
+    pub box : ℕ
+    pub command : c ≡ Serve phase a box
+    pub may : CanServe f phase a box
+    pub row : rowAt g a ≡ rowServed phase (rowAt f a) (boxAt f box .register) box
+    pub storage : boxAt g box ≡ withRegister (boxAt f box) (registerServed phase (rowAt f a) (boxAt f box .register))
+
+  pub record ReceivedBy (a : ℕ) : Type 0 where
+    pub phase : Phase
+    pub box : ℕ
+    pub command : c ≡ Deliver phase a box
+    pub may : CanDeliver f phase a box
+    pub row : rowAt g a ≡ heardRow f phase a box
+
+  pub record IssuedBy (v : ℕ) : Type 0 where
+    pub attempt : ℕ
+    pub box : ℕ
+    pub command : c ≡ Deliver Read attempt box
+    pub may : CanDeliver f Read attempt box
+    pub reading : isReading (ownerAt f attempt .state) attempt ≡ true
+    pub quorum : atQuorum (heardRow f Read attempt box .read) (f .n) ≡ true
+    pub revision : v ≡ revisionOf (heardRow f Read attempt box) (f .n)
+    pub row : rowAt g attempt ≡ rows.issued (heardRow f Read attempt box) v (f .n)
+    pub owner : stationAt g (rowAt f attempt .station) ≡ withState (ownerAt f attempt) (state.Writing attempt)
+
+  -- the q-th write answer of the attempt a, from the box b, reaches its station, which writes
+  pub record LastAnswer (a b : ℕ) : Type 0 where
+    pub command : c ≡ Deliver Write a b
+    pub may : CanDeliver f Write a b
+    pub writing : isWriting (ownerAt f a .state) a ≡ true
+    pub quorum : atQuorum (heardRow f Write a b .write) (f .n) ≡ true
+    pub row : rowAt g a ≡ heardRow f Write a b
+
+  pub record DecidedBy (v : ℕ) : Type 0 where
+    pub attempt : ℕ
+    pub box : ℕ
+    pub answer : LastAnswer attempt box
+    pub taken : allYes (heardRow f Write attempt box .write) (f .n) ≡ true
+    pub written : v ≡ rowAt f attempt .written
+    pub owner : stationAt g (rowAt f attempt .station) ≡ decider f attempt (heardRow f Write attempt box)
+
+  pub record AbortedBy (a : ℕ) : Type 0 where
+    pub box : ℕ
+    pub answer : LastAnswer a box
+    pub taken : allYes (heardRow f Write a box .write) (f .n) ≡ false
+    pub owner : stationAt g (rowAt f a .station) ≡ withState (ownerAt f a) state.Idle
+
+  pub record StoppedBy (b : ℕ) : Type 0 where
+    pub command : c ≡ Stop b
+    pub may : CanStop f b
+    pub storage : boxAt g b ≡ record { register = boxAt f b .register; stopped = true }
+
+  pub record GoneBy (s : ℕ) : Type 0 where
+    pub command : c ≡ Leave s
+    pub may : CanLeave f s
+    pub station : stationAt g s ≡ withState (stationAt f s) state.Gone
+
+  pub record RefusedBy (k : ℕ) : Type 0 where
+    pub cause : TurnedBack f c k
+    pub floor : g ≡ f
+
+  abbrev pub Meaning : (o : Outcome) → Type 0
+  Meaning (Begun a) = BegunBy a
+  Meaning (Served a) = ServedBy a
+  Meaning (Received a) = ReceivedBy a
+  Meaning (Aborted a) = AbortedBy a
+  Meaning (WriteIssued v) = IssuedBy v
+  Meaning (Decided v) = DecidedBy v
+  Meaning (Stopped b) = StoppedBy b
+  Meaning (Gone s) = GoneBy s
+  Meaning (Refused k) = RefusedBy k
+
+-- What the step with the command c may do to a station, a box and a row of the floor f, seen at any one number j: nothing, or one of
+-- few things, each with the tests that the step passed.
+module _ (f : Floor) (c : Command) (j : ℕ) where
+  -- the station j after the step
+  pub data StationMove : Outcome → Station → Type 0 where
+    station-kept : {o : Outcome} → StationMove o (stationAt f j)
+    station-begins : {round v : ℕ} → c ≡ Begin j round v → isGone (stationAt f j .state) ≡ false → isBusy (stationAt f j .state) ≡ false
+        → stationAt f j .last < round → StationMove (Begun (f .used)) (beginner f j round)
+    station-issues : {a b v : ℕ} → c ≡ Deliver Read a b → a < f .used → rowAt f a .station ≡ j → isReading (stationAt f j .state) a ≡ true
+        → StationMove (WriteIssued v) (withState (stationAt f j) (state.Writing a))
+    station-decides : {a b v : ℕ} → c ≡ Deliver Write a b → a < f .used → rowAt f a .station ≡ j → isWriting (stationAt f j .state) a ≡ true
+        → rowAt f a .written ≡ v → StationMove (Decided v) (record { state = state.Decided a; last = stationAt f j .last; decided = v })
+    station-aborts : {a b : ℕ} → c ≡ Deliver Write a b → a < f .used → rowAt f a .station ≡ j → isWriting (stationAt f j .state) a ≡ true
+        → StationMove (Aborted a) (withState (stationAt f j) state.Idle)
+    station-leaves : c ≡ Leave j → isGone (stationAt f j .state) ≡ false → StationMove (Gone j) (withState (stationAt f j) state.Gone)
+
+  -- the box j after the step
+  pub data BoxMove : Outcome → StorageBox → Type 0 where
+    box-kept : {o : Outcome} → BoxMove o (boxAt f j)
+    box-serves : {p : Phase} {a : ℕ} → c ≡ Serve p a j → a < f .used → boxAt f j .stopped ≡ false
+        → BoxMove (Served a) (withRegister (boxAt f j) (registerServed p (rowAt f a) (boxAt f j .register)))
+    box-stops : c ≡ Stop j → boxAt f j .stopped ≡ false → BoxMove (Stopped j) (record { register = boxAt f j .register; stopped = true })
+
+  -- the row j after the step; an answer is received, whatever comes of it
+  pub data RowMove : Outcome → Row → Type 0 where
+    row-kept : {o : Outcome} → RowMove o (rowAt f j)
+    row-begins : {s round v : ℕ} → c ≡ Begin s round v → s < f .m → j ≡ f .used → RowMove (Begun (f .used)) (newRow (f .n) s round v)
+    row-served : {p : Phase} {b : ℕ} → c ≡ Serve p j b → CanServe f p j b → RowMove (Served j) (rowServed p (rowAt f j) (boxAt f b .register) b)
+    row-heard : {p : Phase} {b : ℕ} {o : Outcome} → c ≡ Deliver p j b → CanDeliver f p j b → RowMove o (heardRow f p j b)
+    row-issues : {b v : ℕ} → c ≡ Deliver Read j b → CanDeliver f Read j b → isReading (ownerAt f j .state) j ≡ true
+        → atQuorum (heardRow f Read j b .read) (f .n) ≡ true → v ≡ revisionOf (heardRow f Read j b) (f .n)
+        → RowMove (WriteIssued v) (rows.issued (heardRow f Read j b) v (f .n))
+
+-- What a register x may have become: where a rank or a value is new, it is that of a row in use.
+pub record Grown (f : Floor) (x y : Register) : Type 0 where
+  pub read-up : x .read ≤ y .read
+  pub write-up : x .write ≤ y .write
+  pub read-from : (y .read ≡ x .read) ⊎ ((a : ℕ) × (a < f .used) × (y .read ≡ rowAt f a .rank))
+  pub held-from : ((y .write ≡ x .write) × (y .value ≡ x .value))
+      ⊎ ((a : ℕ) × (a < f .used) × (y .write ≡ rowAt f a .rank) × (y .value ≡ rowAt f a .written))
+
+-- What an attempt keeps for good.
+pub record SameAttempt (w x : Row) : Type 0 where
+  pub station : x .station ≡ w .station
+  pub rank : x .rank ≡ w .rank
+  pub offer : x .offer ≡ w .offer
+
+-- The step that sets a station's decided revision: the delivery that says decided v, of an attempt that the station j owns.
+pub record DecidesNow (f : Floor) (c : Command) (j : ℕ) (o : Outcome) (v : ℕ) : Type 0 where
+  pub attempt : ℕ
+  pub box : ℕ
+  pub command : c ≡ Deliver Write attempt box
+  pub used : attempt < f .used
+  pub owner : rowAt f attempt .station ≡ j
+  pub written : rowAt f attempt .written ≡ v
+  pub outcome : o ≡ Decided v
+
+-- the step that sets its last round: its begin
+pub record BeginsNow (f : Floor) (c : Command) (j : ℕ) (o : Outcome) (round : ℕ) : Type 0 where
+  pub offer : ℕ
+  pub command : c ≡ Begin j round offer
+  pub above : stationAt f j .last < round
+  pub outcome : o ≡ Begun (f .used)
+
+-- What holds of every single step, accepted or refused, on any floor.
+pub record StepClaims : Type 0 where
+  -- "Floor, record and reply stay unchanged": a refused step hands back the very floor, and has a number from 6 to 14
+  pub refused-same : (f : Floor) (r : List ℕ) → isRefused (stepOf f r .outcome) ≡ true → stepOf f r .floor ≡ f
+  pub refused-number : (f : Floor) (r : List ℕ) → isRefused (stepOf f r .outcome) ≡ true
+      → (6 ≤ numberOf (stepOf f r .outcome)) × (numberOf (stepOf f r .outcome) ≤ 14)
+  pub number : (f : Floor) (r : List ℕ) → numberOf (stepOf f r .outcome) ≡ refusalOf f r
+  -- soundness, the sizes and the lengths of the arrays are kept; a new floor has them
+  pub new-sound : (n m : ℕ) → Sound (newFloorOf n m .floor)
+  pub new-lengths : (n m : ℕ) → Lengths (newFloorOf n m .floor)
+  pub sound : (f : Floor) (r : List ℕ) → Sound f → Sound (stepOf f r .floor)
+  pub lengths : (f : Floor) (r : List ℕ) → Lengths f → Lengths (stepOf f r .floor)
+  pub sizes : (f : Floor) (r : List ℕ) → SameSizes f (stepOf f r .floor)
+  -- "Each accepted step says one thing that came of it": what that means
+  pub means : (f : Floor) (r : List ℕ) → Lengths f → Meaning f (commandOf r) (stepOf f r .floor) (stepOf f r .outcome)
+  -- each station, box and row, whichever the step names
+  pub station : (f : Floor) (r : List ℕ) (j : ℕ) → StationMove f (commandOf r) j (stepOf f r .outcome) (stationAt (stepOf f r .floor) j)
+  pub storage : (f : Floor) (r : List ℕ) (j : ℕ) → BoxMove f (commandOf r) j (stepOf f r .outcome) (boxAt (stepOf f r .floor) j)
+  pub row : (f : Floor) (r : List ℕ) (j : ℕ) → RowMove f (commandOf r) j (stepOf f r .outcome) (rowAt (stepOf f r .floor) j)
+  -- "Stop box b, for good": a stopped box never changes again. "a station leaves for good": one that is gone stays gone
+  pub stopped-stays : (f : Floor) (r : List ℕ) (j : ℕ) → boxAt f j .stopped ≡ true → boxAt (stepOf f r .floor) j ≡ boxAt f j
+  pub gone-stays : (f : Floor) (r : List ℕ) (j : ℕ) → isGone (stationAt f j .state) ≡ true → isGone (stationAt (stepOf f r .floor) j .state) ≡ true
+  -- a box's ranks never fall, and each is its old one or that of a row in use
+  pub grown : (f : Floor) (r : List ℕ) (j : ℕ) → Grown f (boxAt f j .register) (boxAt (stepOf f r .floor) j .register)
+  -- "It also keeps its last round and its decided revision, which survives its going": both change at the step that says so only
+  pub last-from : (f : Floor) (r : List ℕ) (j : ℕ) → (stationAt (stepOf f r .floor) j .last ≡ stationAt f j .last)
+      ⊎ BeginsNow f (commandOf r) j (stepOf f r .outcome) (stationAt (stepOf f r .floor) j .last)
+  pub decided-from : (f : Floor) (r : List ℕ) (j : ℕ) → (stationAt (stepOf f r .floor) j .decided ≡ stationAt f j .decided)
+      ⊎ DecidesNow f (commandOf r) j (stepOf f r .outcome) (stationAt (stepOf f r .floor) j .decided)
+  -- "Rows are numbered from 0 in order of beginning": the next row is in use exactly where the step says begun; an attempt keeps its
+  -- station, its rank and its offer
+  pub used : (f : Floor) (r : List ℕ) → stepOf f r .floor .used ≡ f .used + indicator (isBegun (stepOf f r .outcome))
+  pub attempt : (f : Floor) (r : List ℕ) (j : ℕ) → j < f .used → SameAttempt (rowAt f j) (rowAt (stepOf f r .floor) j)
+  -- "boxes are counted, not different answers": each accepted delivery makes the answers received from boxes below n one more
+  pub counted : (f : Floor) (r : List ℕ) (p : Phase) (a b : ℕ) → Lengths f → commandOf r ≡ Deliver p a b → isRefused (stepOf f r .outcome) ≡ false
+      → countBelow (requestsOf p (rowAt (stepOf f r .floor) a) .heard) (f .n) ≡ countBelow (requestsOf p (rowAt f a) .heard) (f .n) + 1
+
+-- What the run of a list l from the floor f is, x being what it handed back: its first k records were accepted and left x's floor.
+pub record RunOver (until : Until) (f : Floor) (l : List (List ℕ)) (k : ℕ) (x : Ran) : Type 0 where
+  pub within : k ≤ length l
+  pub left : x .floor ≡ floorAt f l k
+  pub each : (i : ℕ) → i < k → isRefused (saidAt f l i) ≡ false
+  -- only behind the last of them the run may have ended
+  pub goes-on : (i : ℕ) → suc i < k → stopsAt until (saidAt f l i) ≡ false
+  -- x says what the last of them said, or else what the next, which was refused
+  pub some : isRefused (x .outcome) ≡ false → 0 < k
+  pub last : isRefused (x .outcome) ≡ false → (i : ℕ) → suc i ≡ k → saidAt f l i ≡ x .outcome
+  pub turned : isRefused (x .outcome) ≡ true → (k < length l) × (saidAt f l k ≡ x .outcome)
+  -- without a cause it does not end before the list does
+  pub whole : stopsAt until (x .outcome) ≡ false → k ≡ length l
+
+-- The same of a list that is played up to its first refused record: "played to its end or turned back at a stated step by a number in
+-- document 01, and the floor is then what the accepted steps left".
+pub record PlayedOver (f : Floor) (l : List (List ℕ)) (x : Played) : Type 0 where
+  pub within : x .accepted ≤ length l
+  pub left : x .floor ≡ floorAt f l (x .accepted)
+  pub each : (i : ℕ) → i < x .accepted → isRefused (saidAt f l i) ≡ false
+  pub stopped : x .accepted < length l → (isRefused (saidAt f l (x .accepted)) ≡ true) × (x .refusal ≡ numberOf (saidAt f l (x .accepted)))
+  pub whole : x .accepted ≡ length l → x .refusal ≡ 0
+
+-- What holds of every run.
+pub record RunClaims : Type 0 where
+  pub ran : (until : Until) (f : Floor) (r : List ℕ) (rs : List (List ℕ)) → RunOver until f (r ∷ rs) (runOf until f r rs .accepted) (runOf until f r rs)
+  pub played : (f : Floor) (rs : List (List ℕ)) → PlayedOver f rs (playedOn f rs)

@@ -1,0 +1,33 @@
+-- A delivery, from the requests that the code took out of the row, the answer received and the row put together again.
+use Prim.Native.Nat.{ℕ}
+use mathlib.Core.Path.{_≡_, refl}
+use Rattle.base.specs.Choice.{if_then_else_}
+use Rattle.requests.specs.Requests.{ofPhase, receivedFrom, atQuorum}
+use Rattle.requests.specs.declared.Phase.{Phase}
+use Rattle.requests.specs.declared.Phase.the-variants.{Read, Write}
+use Rattle.requests.specs.declared.Requests.{Requests}
+use Rattle.attempts.specs.Stations.{isIn}
+use Rattle.attempts.specs.Rows.{requestsOf, withRequests}
+use Rattle.attempts.specs.declared.Row.{Row}
+use Rattle.parts.specs.Parts.{receivedOnly, readEnded, writeEnded, delivered}
+use Rattle.parts.specs.declared.Parts.{Parts}
+use Rattle.parts.specs.declared.Changed.{Changed}
+
+-- the phase that the code found
+pub of-read : {A : Type 0} (p : Phase) {r x : A} (y : A) → p ≡ Read → r ≡ x → r ≡ ofPhase p x y
+of-read p y e h = rw e h
+
+pub of-write : {A : Type 0} (p : Phase) {r y : A} (x : A) → p ≡ Write → r ≡ y → r ≡ ofPhase p x y
+of-write p x e h = rw e h
+
+-- what the code decides by: h is the phase with the answer received, w the row with it
+abbrev pub deliveredBy : (x : Parts) (p : Phase) (a : ℕ) (h : Requests) (w : Row) → Changed
+deliveredBy x p a h w =
+    if isIn p (x .station .state) a then
+    (if atQuorum h (x .n) then ofPhase p (readEnded x a w) (writeEnded x a w) else receivedOnly x a w)
+    else receivedOnly x a w
+
+pub delivered-is : (x : Parts) (p : Phase) (a b : ℕ) {q h : Requests} {w : Row} → q ≡ requestsOf p (x .row) → h ≡ receivedFrom q b
+    → w ≡ withRequests p (x .row) h → deliveredBy x p a h w ≡ delivered x p a b
+unfolding delivered
+delivered-is x p a b eq eh ew = rw (ew, eh, eq) refl

@@ -1,0 +1,3 @@
+pub mod EffectNeeds
+pub mod PlaceLaws
+pub mod DeliverLaws

@@ -1,0 +1,186 @@
+-- Internal. The parts of a floor that the loop of `floor` reads for one step and stores behind it, and the step on these alone: words of
+-- private contracts. No promise rests on this file: what a step is on a floor stands in crates/floor/specs, and crates/floor/proofs/Joins
+-- shows that on a sound floor the two are the same.
+use Prim.Native.Nat.{ℕ, _+_}
+use mathlib.Core.Bool.{true}
+use lib.Dec.{eqb, leb, ltb}
+use Rattle.base.specs.Choice.{if_then_else_}
+use Rattle.register.specs.Register.{withRegister}
+use Rattle.register.specs.declared.StorageBox.{StorageBox}
+use Rattle.requests.specs.Requests.{ofPhase, standingOf, isWaiting, isOnTheWay, atQuorum, allYes}
+use Rattle.requests.specs.declared.Phase.{Phase}
+use Rattle.commands.specs.declared.Command.{Command}
+use Rattle.commands.specs.declared.Command.the-variants.{Begin, Serve, Deliver, Stop, Leave, Malformed}
+use Rattle.commands.specs.declared.Outcome.the-variants as said
+use Rattle.attempts.specs.Stations.{isGone, isBusy, isIn, withState}
+use Rattle.attempts.specs.Rows.{requestsOf, newRow, revisionOf, issued, rowServed, registerServed, requestsHeard, rowHeard}
+use Rattle.attempts.specs.declared.State.the-variants as state
+use Rattle.attempts.specs.declared.Station.{Station}
+use Rattle.attempts.specs.declared.Row.{Row}
+use Rattle.parts.specs.declared.Parts.{Parts}
+use Rattle.parts.specs.declared.Changed.{Changed}
+
+-- The place of an array that a number names. One past the end names none; its step is turned back with 8, whatever stands at place 0.
+unfoldable pub placeIn : (limit x : ℕ) → ℕ
+placeIn limit x = if ltb x limit then x else 0
+
+-- The row, the box and the station that a command names, where `used` rows are in use and the row named belongs to `owner`. A begin
+-- names the next row. Where a command names none, place 0 is read and stored back.
+abbrev pub attemptIn : (used : ℕ) (c : Command) → ℕ
+attemptIn used (Begin s round v) = used
+attemptIn used (Serve p a b) = a
+attemptIn used (Deliver p a b) = a
+attemptIn used (Stop b) = 0
+attemptIn used (Leave s) = 0
+attemptIn used Malformed = 0
+
+abbrev pub boxIn : (c : Command) → ℕ
+boxIn (Begin s round v) = 0
+boxIn (Serve p a b) = b
+boxIn (Deliver p a b) = b
+boxIn (Stop b) = b
+boxIn (Leave s) = 0
+boxIn Malformed = 0
+
+abbrev pub stationIn : (owner : ℕ) (c : Command) → ℕ
+stationIn owner (Begin s round v) = s
+stationIn owner (Serve p a b) = owner
+stationIn owner (Deliver p a b) = owner
+stationIn owner (Stop b) = 0
+stationIn owner (Leave s) = s
+stationIn owner Malformed = 0
+
+-- Refusals 7 to 14, 0 where the step is accepted.
+unfoldable pub beginIn : (x : Parts) (s round v : ℕ) → ℕ
+beginIn x s round v =
+    if leb (x .m) s then 8
+    else if isGone (x .station .state) then 9
+    else if isBusy (x .station .state) then 10
+    else if eqb v 0 then 11
+    else if eqb round 0 then 11
+    else if leb round (x .station .last) then 11
+    else if leb 64 (x .used) then 12
+    else 0
+
+unfoldable pub serveIn : (x : Parts) (p : Phase) (a b : ℕ) → ℕ
+serveIn x p a b =
+    if leb (x .used) a then 8
+    else if leb (x .n) b then 8
+    else if x .storage .stopped then 13
+    else if isWaiting (standingOf (requestsOf p (x .row)) b) then 0
+    else 14
+
+unfoldable pub deliverIn : (x : Parts) (p : Phase) (a b : ℕ) → ℕ
+deliverIn x p a b =
+    if leb (x .used) a then 8
+    else if leb (x .n) b then 8
+    else if isGone (x .station .state) then 9
+    else if isOnTheWay (standingOf (requestsOf p (x .row)) b) then 0
+    else 14
+
+unfoldable pub stopIn : (x : Parts) (b : ℕ) → ℕ
+stopIn x b =
+    if leb (x .n) b then 8
+    else if x .storage .stopped then 13
+    else 0
+
+unfoldable pub leaveIn : (x : Parts) (s : ℕ) → ℕ
+leaveIn x s =
+    if leb (x .m) s then 8
+    else if isGone (x .station .state) then 9
+    else 0
+
+abbrev pub refusalIn : (x : Parts) (c : Command) → ℕ
+refusalIn x (Begin s round v) = beginIn x s round v
+refusalIn x (Serve p a b) = serveIn x p a b
+refusalIn x (Deliver p a b) = deliverIn x p a b
+refusalIn x (Stop b) = stopIn x b
+refusalIn x (Leave s) = leaveIn x s
+refusalIn x Malformed = 7
+
+-- row, box and station replaced
+abbrev pub withParts : (x : Parts) (row : Row) (storage : StorageBox) (station : Station) → Parts
+withParts x row storage station = record { n = x .n; m = x .m; used = x .used; row = row; storage = storage; station = station }
+
+-- What an accepted step does to the parts, and what it says.
+unfoldable pub begun : (x : Parts) (s round v : ℕ) → Changed
+begun x s round v =
+    record {
+      parts = record {
+        n = x .n;
+        m = x .m;
+        used = x .used + 1;
+        row = newRow (x .n) s round v;
+        storage = x .storage;
+        station = record { state = state.Reading (x .used); last = round; decided = x .station .decided };
+      };
+      outcome = said.Begun (x .used);
+    }
+
+unfoldable pub served : (x : Parts) (p : Phase) (a b : ℕ) → Changed
+served x p a b =
+    record {
+      parts = withParts x (rowServed p (x .row) (x .storage .register) b)
+          (withRegister (x .storage) (registerServed p (x .row) (x .storage .register))) (x .station);
+      outcome = said.Served a;
+    }
+
+-- the row w is the attempt's, its answer received
+abbrev pub receivedOnly : (x : Parts) (a : ℕ) (w : Row) → Changed
+receivedOnly x a w = record { parts = withParts x w (x .storage) (x .station); outcome = said.Received a }
+
+abbrev pub writeIssued : (x : Parts) (a : ℕ) (w : Row) (v : ℕ) → Changed
+writeIssued x a w v =
+    record {
+      parts = withParts x (issued w v (x .n)) (x .storage) (withState (x .station) (state.Writing a));
+      outcome = said.WriteIssued v;
+    }
+
+unfoldable pub readEnded : (x : Parts) (a : ℕ) (w : Row) → Changed
+readEnded x a w = writeIssued x a w (revisionOf w (x .n))
+
+abbrev pub abortedBy : (x : Parts) (a : ℕ) (w : Row) → Changed
+abortedBy x a w = record { parts = withParts x w (x .storage) (withState (x .station) state.Idle); outcome = said.Aborted a }
+
+abbrev pub decidedBy : (x : Parts) (a : ℕ) (w : Row) → Changed
+decidedBy x a w =
+    record {
+      parts = withParts x w (x .storage) (record { state = state.Decided a; last = x .station .last; decided = w .written });
+      outcome = said.Decided (w .written);
+    }
+
+unfoldable pub writeEnded : (x : Parts) (a : ℕ) (w : Row) → Changed
+writeEnded x a w = if allYes (w .write) (x .n) then decidedBy x a w else abortedBy x a w
+
+unfoldable pub delivered : (x : Parts) (p : Phase) (a b : ℕ) → Changed
+delivered x p a b =
+    if isIn p (x .station .state) a then
+    (if atQuorum (requestsHeard p (x .row) b) (x .n) then
+    ofPhase p (readEnded x a (rowHeard p (x .row) b)) (writeEnded x a (rowHeard p (x .row) b))
+    else receivedOnly x a (rowHeard p (x .row) b))
+    else receivedOnly x a (rowHeard p (x .row) b)
+
+abbrev pub stoppedBox : (x : Parts) (b : ℕ) → Changed
+stoppedBox x b =
+    record {
+      parts = withParts x (x .row) (record { register = x .storage .register; stopped = true }) (x .station);
+      outcome = said.Stopped b;
+    }
+
+abbrev pub goneStation : (x : Parts) (s : ℕ) → Changed
+goneStation x s = record { parts = withParts x (x .row) (x .storage) (withState (x .station) state.Gone); outcome = said.Gone s }
+
+abbrev pub turnedBack : (x : Parts) (k : ℕ) → Changed
+turnedBack x k = record { parts = x; outcome = said.Refused k }
+
+abbrev pub effectIn : (x : Parts) (c : Command) → Changed
+effectIn x (Begin s round v) = begun x s round v
+effectIn x (Serve p a b) = served x p a b
+effectIn x (Deliver p a b) = delivered x p a b
+effectIn x (Stop b) = stoppedBox x b
+effectIn x (Leave s) = goneStation x s
+effectIn x Malformed = turnedBack x 7
+
+-- the step, refused or accepted
+unfoldable pub changeIn : (x : Parts) (c : Command) → Changed
+changeIn x c = if eqb (refusalIn x c) 0 then effectIn x c else turnedBack x (refusalIn x c)

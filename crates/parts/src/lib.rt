@@ -1,0 +1,44 @@
+// Internal to `floor`: the parts of a floor that one step reads and stores, and the step on these alone, by value. The loop of `floor`
+// is the one place that reads them out of a floor and stores them into it, so that no whole floor is moved for a step.
+ghost use mathlib.Core.Path.{_≡_};
+use attempts::Row;
+use attempts::Station;
+use commands::Outcome;
+use register::StorageBox;
+
+mod kinds;
+mod places;
+
+pub use kinds::change;
+pub use places::box_place;
+pub use places::row_place;
+pub use places::station_place;
+
+// The parts of a floor that one step looks at, and all that it can change.
+pub struct Parts {
+    pub n: u8,
+    pub m: u8,
+    pub used: u8,
+    pub row: Row,
+    pub storage: StorageBox,
+    pub station: Station,
+}
+
+// The parts after a step, and what came of it.
+pub struct Changed {
+    pub parts: Parts,
+    pub outcome: Outcome,
+}
+
+pub fn gathered(n: u8, m: u8, used: u8, row: Row, storage: StorageBox, station: Station) -> Parts
+    ensures { λ r. ⌜ r ≡ record { n = n; m = m; used = used; row = row; storage = storage; station = station } ⌝ }
+{
+    Parts {
+        n,
+        m,
+        used,
+        row,
+        storage,
+        station,
+    }
+}

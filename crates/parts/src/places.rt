@@ -1,0 +1,75 @@
+// The places of the floor's arrays that a command names.
+ghost use mathlib.Core.Path.{_≡_};
+ghost use Prim.Native.Nat.{_<_};
+ghost use Rattle.parts.specs.Parts.{placeIn, attemptIn, boxIn, stationIn};
+use commands::Command;
+
+// A place of an array of that length: the number itself where it is one, else 0.
+fn place(limit: u8, x: u8) -> u8
+    requires { ⌜ 0 < limit ⌝ }
+    ensures { λ r. ⌜ (r ≡ placeIn limit x) × (r < limit) ⌝ }
+{
+    if x < limit {
+        return x;
+    }
+    0
+}
+
+fn attempt_in(used: u8, c: Command) -> u8
+    ensures { λ r. ⌜ r ≡ attemptIn used c ⌝ }
+{
+    match c {
+        Command::Begin(_, _, _) => used,
+        Command::Serve(_, a, _) => a,
+        Command::Deliver(_, a, _) => a,
+        Command::Stop(_) => 0,
+        Command::Leave(_) => 0,
+        Command::Malformed => 0,
+    }
+}
+
+fn box_in(c: Command) -> u8
+    ensures { λ r. ⌜ r ≡ boxIn c ⌝ }
+{
+    match c {
+        Command::Begin(_, _, _) => 0,
+        Command::Serve(_, _, b) => b,
+        Command::Deliver(_, _, b) => b,
+        Command::Stop(b) => b,
+        Command::Leave(_) => 0,
+        Command::Malformed => 0,
+    }
+}
+
+fn station_in(owner: u8, c: Command) -> u8
+    ensures { λ r. ⌜ r ≡ stationIn owner c ⌝ }
+{
+    match c {
+        Command::Begin(s, _, _) => s,
+        Command::Serve(_, _, _) => owner,
+        Command::Deliver(_, _, _) => owner,
+        Command::Stop(_) => 0,
+        Command::Leave(s) => s,
+        Command::Malformed => 0,
+    }
+}
+
+// The place of the row that a command names, where `used` rows are in use.
+pub fn row_place(used: u8, c: Command) -> u8
+    ensures { λ r. ⌜ (r ≡ placeIn 64 (attemptIn used c)) × (r < 64) ⌝ }
+{
+    place(64, attempt_in(used, c))
+}
+
+pub fn box_place(c: Command) -> u8
+    ensures { λ r. ⌜ (r ≡ placeIn 9 (boxIn c)) × (r < 9) ⌝ }
+{
+    place(9, box_in(c))
+}
+
+// That of the station, where the row named belongs to `owner`.
+pub fn station_place(owner: u8, c: Command) -> u8
+    ensures { λ r. ⌜ (r ≡ placeIn 16 (stationIn owner c)) × (r < 16) ⌝ }
+{
+    place(16, station_in(owner, c))
+}

@@ -1,0 +1,15 @@
+-- What is claimed of a file that is played. The proof is `player-claims` in proofs/PlayLaws.
+use Prim.Native.Nat.{ℕ}
+use mathlib.Core.Path.{_≡_}
+use mathlib.Core.List.{List}
+use Rattle.floor.specs.Floors.{emptyFloor, newFloorOf}
+use Rattle.floor.specs.Claims.{PlayedOver}
+use Rattle.drill_file.specs.DrillFile.{boxesOf, stationsOf, fileRefusal, recordsOf}
+use Rattle.player.specs.Play.{playedOf}
+
+pub record PlayerClaims : Type 0 where
+  -- "A drill file, however mangled, is played to its end or turned back at a stated step by a number in document 01, and the floor is
+  -- then what the accepted steps left."
+  pub accepted : (s : List ℕ) → fileRefusal s ≡ 0 → PlayedOver (newFloorOf (boxesOf s) (stationsOf s) .floor) (recordsOf s) (playedOf s)
+  -- a file that is refused: the floor of one box and one station, no steps
+  pub refused : (s : List ℕ) → ¬ (fileRefusal s ≡ 0) → playedOf s ≡ record { floor = emptyFloor 1 1; accepted = 0; refusal = fileRefusal s }

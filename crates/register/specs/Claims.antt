@@ -1,0 +1,23 @@
+-- What is claimed of one ranked register. The proof is `register-claims` in proofs/Claims.
+use Prim.Native.Nat.{ℕ, _≤_, _<_}
+use mathlib.Core.Path.{_≡_}
+use mathlib.Core.Logic.{_⊎_}
+use mathlib.Core.Bool.{true, false}
+use Rattle.register.specs.Register.{rmwRead, takes, rmwWrite}
+use Rattle.register.specs.declared.Register.{Register}
+
+pub record RegisterClaims : Type 0 where
+  -- a read raises the read rank, to its own at least, answers what is held, and leaves it
+  pub read-rises : (x : Register) (r : ℕ) → x .read ≤ rmwRead x r .register .read
+  pub read-reaches : (x : Register) (r : ℕ) → r ≤ rmwRead x r .register .read
+  pub read-answers : (x : Register) (r : ℕ) → (rmwRead x r .rank ≡ x .write) × (rmwRead x r .value ≡ x .value)
+  pub read-leaves : (x : Register) (r : ℕ) → (rmwRead x r .register .write ≡ x .write) × (rmwRead x r .register .value ≡ x .value)
+  -- "if read rank ≤ r and write rank < r"
+  pub takes-means : (x : Register) (r : ℕ) → takes x r ≡ true → (x .read ≤ r) × (x .write < r)
+  pub takes-both : (x : Register) (r : ℕ) → x .read ≤ r → x .write < r → takes x r ≡ true
+  pub takes-not : (x : Register) (r : ℕ) → takes x r ≡ false → (r < x .read) ⊎ (r ≤ x .write)
+  -- what is taken is what is then held; what is not taken changes nothing; a write never changes the read rank
+  pub write-taken : (x : Register) (r v : ℕ) → takes x r ≡ true → rmwWrite x r v ≡ record { register = record { read = x .read; write = r; value = v }; taken = true }
+  pub write-refused : (x : Register) (r v : ℕ) → takes x r ≡ false → rmwWrite x r v ≡ record { register = x; taken = false }
+  pub write-answers : (x : Register) (r v : ℕ) → rmwWrite x r v .taken ≡ takes x r
+  pub write-keeps-read : (x : Register) (r v : ℕ) → rmwWrite x r v .register .read ≡ x .read

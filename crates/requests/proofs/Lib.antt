@@ -1,0 +1,5 @@
+pub mod RequestLaws
+pub mod Shifts
+pub mod StandingTests
+pub mod Standings
+pub mod Claims

@@ -1,0 +1,16 @@
+-- What is claimed of a solo finish, proved.
+use Rattle.solo.specs.Claims.{SoloClaims}
+use Rattle.solo.proofs.RoundLaws.{round-smallest}
+use Rattle.solo.proofs.CountLaws.{solo-counted}
+use Rattle.solo.proofs.LawfulLaws.{step-lawful, new-lawful}
+use Rattle.solo.proofs.Decides.{solo-decides, solo-ends}
+
+pub solo-claims : SoloClaims
+solo-claims = record {
+  smallest = round-smallest;
+  counted = solo-counted;
+  ends = solo-ends;
+  decides = solo-decides;
+  new-lawful = new-lawful;
+  lawful = step-lawful;
+}

@@ -1,0 +1,140 @@
+-- An attempt driven alone on a floor where it has begun: step by step, exchange by exchange and phase by phase, to its end after 4q + 1
+-- steps.
+use Prim.Native.Nat.{ℕ, _+_, _*_, _≤_, _<_}
+use native.Mathlib.Omega.{arith}
+use mathlib.Core.Path.{_≡_, refl, sym, subst}
+use mathlib.Core.Bool.{Bool, false}
+use mathlib.Core.List.{List, [], _∷_, _++_, append-nil}
+use lib.ListN.{length, getD}
+use Rattle.base.specs.Choice.{if_then_else_}
+use Rattle.base.specs.Numbers.{quorum}
+use Rattle.base.proofs.Cases.{clash, by-cases, not-true-false}
+use Rattle.base.proofs.Choices.{by-test}
+use Rattle.register.specs.Register.{box0}
+use Rattle.requests.specs.declared.Phase.{Phase}
+use Rattle.requests.specs.declared.Phase.the-variants.{Read, Write}
+use Rattle.commands.specs.Commands.{commandOf, encodeOf}
+use Rattle.commands.specs.Outcomes.{isRefused}
+use Rattle.commands.specs.declared.Command.{Command}
+use Rattle.commands.specs.declared.Command.the-variants.{Serve, Deliver}
+use Rattle.commands.specs.declared.Outcome.{Outcome}
+use Rattle.commands.specs.declared.Outcome.the-variants.{Served, Decided, Aborted}
+use Rattle.commands.proofs.Encodings.{decode-encode}
+use Rattle.attempts.specs.Rows.{requestsOf}
+use Rattle.floor.specs.Floors.{rowAt}
+use Rattle.floor.specs.Effects.{stepped, afterServe}
+use Rattle.floor.specs.Step.{applyOf}
+use Rattle.floor.specs.Runs.{stopsAt, runFrom}
+use Rattle.floor.specs.declared.Floor.{Floor}
+use Rattle.floor.specs.declared.Ran.{Ran}
+use Rattle.floor.specs.declared.Until.the-variants.{End}
+use Rattle.solo.specs.Plan.{exchange, exchanges}
+use Rattle.solo.proofs.Driven.{Attempt, Driven, RequestsAt, RequestsSent, served, served-driven, served-sent, more, more-driven, more-requests, read-last, read-last-driven, read-last-writes, allSaid, all-said, write-decides, write-aborts}
+
+-- A run that is over: the station has decided, as it does where its rank is the highest, or the attempt has aborted.
+pub data Said (a : ℕ) : Outcome → Bool → Type 0 where
+  says-decided : {highest : Bool} (v : ℕ) → Said a (Decided v) highest
+  says-aborted : Said a (Aborted a) false
+
+pub record AtEnd (t : Attempt) (x : Ran) : Type 0 where
+  pub said : Said (t .number) (x .outcome) (t .highest)
+  pub count : x .accepted ≡ 4 * quorum (t .n) + 1
+
+-- the records rs, after c accepted steps that left the floor g, lead there; no record does not
+abbrev pub Leads : (t : Attempt) (c : ℕ) (g : Floor) (rs : List (List ℕ)) → Type 0
+Leads t c g [] = ⊥
+Leads t c g (r ∷ rs) = AtEnd t (runFrom End c g (commandOf r) rs)
+
+module _ (t : Attempt) (c : ℕ) (g h : Floor) (k : Command) (o : Outcome) (e : applyOf g k ≡ stepped h o) where
+  -- an accepted step behind which the run goes on
+  pub step-on : (rs : List (List ℕ)) → stopsAt End o ≡ false → Leads t (c + 1) h rs → Leads t c g (encodeOf k ∷ rs)
+  unfolding runFrom
+  step-on [] s p = absurd p
+  step-on (r ∷ rs) s p = rw (decode-encode k, e) (by-test (AtEnd t) (stopsAt End o) _ _ (λ i. clash i s) (λ _. p))
+
+  -- the last of the plan
+  step-last : isRefused o ≡ false → Said (t .number) o (t .highest) → c + 1 ≡ 4 * quorum (t .n) + 1 → Leads t c g (encodeOf k ∷ [])
+  unfolding runFrom
+  step-last a s n = rw (decode-encode k, e) (record { said = s; count = by-test (λ (i : ℕ). i ≡ 4 * quorum (t .n) + 1) (isRefused o) c (c + 1) (λ i. clash i a) (λ _. n) })
+
+-- Between two exchanges of a phase: k of them are made, the boxes from p on were not asked.
+pub record AtPhase (t : Attempt) (f : Phase) (p k : ℕ) (g : Floor) : Type 0 where
+  pub floor : Driven t f p g
+  pub requests : RequestsAt t p k (requestsOf f (rowAt g (t .number)))
+
+-- one exchange more, before the q-th and as the q-th
+module _ (t : Attempt) (p k c b : ℕ) (l : p ≤ b) (h : b < t .n) (o : getD (t .boxes) b box0 .stopped ≡ false) (g : Floor) where
+  module _ (f : Phase) (r : AtPhase t f p k g) where
+    abbrev next : Floor
+    next = afterServe g f (t .number) b
+
+    next-driven : Driven t f (b + 1) next
+    next-driven = served-driven f (r .floor) (r .requests) b l h o
+
+    next-sent : RequestsSent t b k (requestsOf f (rowAt next (t .number)))
+    next-sent = served-sent f (r .floor) (r .requests) b l h o
+
+    exchange-served : (rs : List (List ℕ)) → Leads t (c + 1) next (encodeOf (Deliver f (t .number) b) ∷ rs) → Leads t c g (exchange f (t .number) b ++ rs)
+    unfolding exchange stopsAt if_then_else_
+    exchange-served rs = step-on t c g next (Serve f (t .number) b) (Served (t .number)) (served f (r .floor) (r .requests) b l h o) _ refl
+
+    goes-more : (rs : List (List ℕ)) → k + 1 < quorum (t .n) → ((y : Floor) → AtPhase t f (b + 1) (k + 1) y → Leads t (c + 1 + 1) y rs)
+        → Leads t c g (exchange f (t .number) b ++ rs)
+    unfolding stopsAt if_then_else_
+    goes-more rs q w =
+        exchange-served rs
+        (step-on t (c + 1) next _ (Deliver f (t .number) b) _ (more f next-driven h next-sent q) rs refl
+        (w _ (record { floor = more-driven f next-driven h next-sent q; requests = more-requests f next-driven h next-sent q })))
+
+  reads-last : (rs : List (List ℕ)) → AtPhase t Read p k g → k + 1 ≡ quorum (t .n) → ((y : Floor) → AtPhase t Write 0 0 y → Leads t (c + 1 + 1) y rs)
+      → Leads t c g (exchange Read (t .number) b ++ rs)
+  unfolding stopsAt if_then_else_
+  reads-last rs r q w =
+      let x = next-driven Read r in
+      let s = next-sent Read r in
+      exchange-served Read r rs
+      (step-on t (c + 1) (next Read r) _ (Deliver Read (t .number) b) _ (read-last x h s q) rs refl
+      (w _ (record { floor = read-last-driven x h s q; requests = read-last-writes x h s q })))
+
+  writes-last : AtPhase t Write p k g → k + 1 ≡ quorum (t .n) → c + 1 + 1 ≡ 4 * quorum (t .n) + 1 → Leads t c g (exchange Write (t .number) b ++ [])
+  writes-last r q n =
+      let x = next-driven Write r in
+      let s = next-sent Write r in
+      exchange-served Write r []
+      (by-cases (allSaid x h s q)
+      (λ e. step-last t (c + 1) (next Write r) _ (Deliver Write (t .number) b) _ (write-decides x h s q e) refl (says-decided _) n)
+      (λ e.
+      let u = not-true-false (t .highest) (λ i. clash (all-said x h s q i) e) in
+      step-last t (c + 1) (next Write r) _ (Deliver Write (t .number) b) _ (write-aborts x h s q e) refl
+      (subst (Said (t .number) (Aborted (t .number))) (sym u) says-aborted) n))
+
+-- boxes in ascending order from p on that have not stopped
+abbrev pub Ascending : Attempt → ℕ → List ℕ → Type 0
+Ascending t p [] = Unit {0}
+Ascending t p (b ∷ bs) = (p ≤ b) × (b < t .n) × (getD (t .boxes) b box0 .stopped ≡ false) × Ascending t (b + 1) bs
+
+-- a phase that starts after `start` steps: an exchange with each of q boxes, of which `last` is the q-th, and then the rest
+module _ (t : Attempt) (f : Phase) (start : ℕ) (rest : List (List ℕ))
+    (last : (p k b : ℕ) → p ≤ b → b < t .n → getD (t .boxes) b box0 .stopped ≡ false → (g : Floor) → AtPhase t f p k g → k + 1 ≡ quorum (t .n)
+    → Leads t (start + 2 * k) g (exchange f (t .number) b ++ rest)) where
+  phase-driven : (bs : List ℕ) (b p k : ℕ) (g : Floor) → k + length (b ∷ bs) ≡ quorum (t .n) → Ascending t p (b ∷ bs) → AtPhase t f p k g
+      → Leads t (start + 2 * k) g (exchanges f (t .number) (b ∷ bs) ++ rest)
+  unfolding exchanges exchange
+  phase-driven [] b p k g h u r = last p k b (u .0) (u .1) (u .2) g r (omega arith)
+  phase-driven (b' ∷ bs) b p k g h u r =
+      let e : start + 2 * k + 1 + 1 ≡ start + 2 * (k + 1) = omega arith in
+      goes-more t p k (start + 2 * k) b (u .0) (u .1) (u .2) g f r (exchanges f (t .number) (b' ∷ bs) ++ rest) (omega arith)
+      (λ y a. rw e (phase-driven bs b' (b + 1) (k + 1) y (omega arith) (u .3) a))
+
+-- both phases, after the begin
+module _ (t : Attempt) (bs : List ℕ) (b : ℕ) (h : length (b ∷ bs) ≡ quorum (t .n)) (u : Ascending t 0 (b ∷ bs)) where
+  writes-driven : (c : ℕ) (g : Floor) → c ≡ 1 + 2 * quorum (t .n) → AtPhase t Write 0 0 g → Leads t c g (exchanges Write (t .number) (b ∷ bs))
+  writes-driven c g e r =
+      let start : c + 2 * 0 ≡ c = omega arith in
+      rw (start, append-nil) at
+      (phase-driven t Write c [] (λ p k j l i o y a q. writes-last t p k (c + 2 * k) j l i o y a q (omega arith)) bs b 0 0 g (omega arith) u r)
+
+  pub both-driven : (g : Floor) → AtPhase t Read 0 0 g → Leads t 1 g (exchanges Read (t .number) (b ∷ bs) ++ exchanges Write (t .number) (b ∷ bs))
+  both-driven g r =
+      phase-driven t Read 1 (exchanges Write (t .number) (b ∷ bs))
+      (λ p k j l i o y a q. reads-last t p k (1 + 2 * k) j l i o y _ a q (λ z w. writes-driven _ z (omega arith) w)) bs b 0 0 g (omega arith) u r

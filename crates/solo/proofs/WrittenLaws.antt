@@ -1,0 +1,145 @@
+-- The buffer that the plan is written into: what stands at its front, store by store, record by record and box by box.
+use Prim.Native.Nat.{ℕ, zero, suc, _+_, _-_, _*_, _/_, _<_, _≤_}
+use native.Mathlib.Omega.{arith}
+use native.Mathlib.Nat.{add-zero, sub-zero}
+use native.Mathlib.Numerals.{add-one}
+use mathlib.Core.Path.{_≡_, refl, sym, ap, _∙_}
+use mathlib.Core.Bool.{true, false}
+use mathlib.Core.List.{List, [], _∷_, _++_, flatten, append-assoc, append-nil}
+use lib.ListN.{length, getD, take, set, length-set}
+use lib.Seq.{take-all, take-suc, take-suc-set}
+use Rattle.base.specs.Numbers.{quorum}
+use Rattle.base.specs.Records.{recordsFrom}
+use Rattle.base.proofs.RecordLaws.{joined-append, records-again}
+use Rattle.register.specs.Register.{box0}
+use Rattle.register.specs.declared.StorageBox.{StorageBox}
+use Rattle.requests.specs.declared.Phase.{Phase}
+use Rattle.requests.specs.declared.Phase.the-variants.{Read, Write}
+use Rattle.commands.specs.Commands.{encodeOf}
+use Rattle.commands.specs.declared.Command.the-variants.{Begin}
+use Rattle.floor.specs.Runs.{runOf}
+use Rattle.floor.specs.Claims.{Sound}
+use Rattle.floor.specs.declared.Floor.{Floor}
+use Rattle.floor.specs.declared.Ran.{Ran}
+use Rattle.floor.specs.declared.Until.the-variants.{End}
+use Rattle.solo.specs.Plan.{roundOf, answeringFrom, lowest, askedOf, exchange, exchanges, beginOf, exchangesOf}
+use Rattle.solo.proofs.PlanLaws.{one-box, answering-skip, answering-take, answering-none}
+use Rattle.solo.proofs.PlanRecords.{plan-rest}
+
+-- l is the list s with the first i bytes of a record r copied behind the first `at`
+pub record Copied (s : List ℕ) (at : ℕ) (r l : List ℕ) (i : ℕ) : Type 0 where
+  pub within : i ≤ 8
+  pub same : length l ≡ length s
+  pub bytes : take (at + i) l ≡ take at s ++ take i r
+
+pub copied-none : (s : List ℕ) (at : ℕ) (r : List ℕ) → Copied s at r s 0
+copied-none s at r = record { within = omega arith; same = refl; bytes = ap (λ (n : ℕ). take n s) (add-zero at) ∙ sym (append-nil (take at s)) }
+
+module _ {s : List ℕ} {at : ℕ} {r l : List ℕ} {i : ℕ} (c : Copied s at r l i) (eight : length r ≡ 8) where
+  pub copied-more : at + 8 ≤ length s → i < 8 → Copied s at r (set l (at + i) (getD r i 0)) (i + 1)
+  copied-more h k =
+      let next : at + (i + 1) ≡ suc (at + i) = omega arith in
+      let here : at + i < length l = omega (arith, c .same) in
+      let there : i < length r = omega arith in
+      record {
+        within = omega arith;
+        same = simp length-set (c .same);
+        bytes = rw (next, take-suc-set l (at + i) (getD r i 0), c .bytes, add-one i, take-suc r i 0) (append-assoc (take at s) (take i r) (getD r i 0 ∷ []));
+      }
+
+  pub copied-all : 8 ≤ i → take (at + 8) l ≡ take at s ++ r
+  copied-all h =
+      let e : i ≡ 8 = omega (arith, c .within) in
+      rw e at (c .bytes) ∙ ap (λ (x : List ℕ). take at s ++ x) (take-all 8 r (omega arith))
+
+-- two records, one behind the other
+pub copied-two : (s l l' : List ℕ) (at : ℕ) (r r' : List ℕ) → take (at + 8) l ≡ take at s ++ r → take (at + 8 + 8) l' ≡ take (at + 8) l ++ r'
+    → take (at + 16) l' ≡ take at s ++ flatten (r ∷ r' ∷ [])
+unfolding flatten
+copied-two s l l' at r r' e e' =
+    let both : at + 16 ≡ at + 8 + 8 = omega arith in
+    rw (both, e', e, append-nil r') (append-assoc (take at s) r r')
+
+-- the exchanges with the first q that answer, of k boxes from box b on
+abbrev exchangesFrom : ℕ → ℕ → List StorageBox → Phase → ℕ → ℕ → List (List ℕ)
+exchangesFrom k b boxes p a q = exchanges p a (take q (answeringFrom k b boxes))
+
+-- box b has stopped; an exchange is made with it; enough were made; no box is left
+module _ (k b : ℕ) (boxes : List StorageBox) (p : Phase) (a : ℕ) where
+  phase-skip : (q : ℕ) → getD boxes b box0 .stopped ≡ true → exchangesFrom (suc k) b boxes p a q ≡ exchangesFrom k (b + 1) boxes p a q
+  phase-skip q e = rw (answering-skip k b boxes e)
+
+  phase-take : (q j : ℕ) → q ≡ suc j → getD boxes b box0 .stopped ≡ false
+      → exchangesFrom (suc k) b boxes p a q ≡ exchange p a b ++ exchangesFrom k (b + 1) boxes p a j
+  unfolding exchanges
+  phase-take q j h e = rw (answering-take k b boxes e, h)
+
+phase-enough : (k b : ℕ) (boxes : List StorageBox) (p : Phase) (a : ℕ) → exchangesFrom k b boxes p a 0 ≡ []
+unfolding exchanges
+phase-enough k b boxes p a = refl
+
+phase-over : (b : ℕ) (boxes : List StorageBox) (p : Phase) (a q : ℕ) → exchangesFrom 0 b boxes p a q ≡ []
+unfolding exchanges
+phase-over b boxes p a zero = refl
+phase-over b boxes p a (suc q) = rw answering-none
+
+-- The loop's invariant: what is written and what is left of the phase, behind it, are the whole phase; `left` boxes are still asked,
+-- from box b on, and there is room for them.
+pub record Writing (s : List ℕ) (at n : ℕ) (p : Phase) (a : ℕ) (boxes : List StorageBox) (l : List ℕ) (end left b : ℕ) : Type 0 where
+  pub within : b ≤ n
+  pub same : length l ≡ length s
+  pub room : end + 16 * left ≡ at + 16 * quorum n
+  pub bytes : take end l ++ flatten (exchangesFrom (n - b) b boxes p a left) ≡ take at s ++ flatten (exchanges p a (lowest (quorum n) boxes n))
+
+pub writing-none : (s : List ℕ) (at n : ℕ) (p : Phase) (a : ℕ) (boxes : List StorageBox) (q : ℕ) → q ≡ quorum n → Writing s at n p a boxes s at q 0
+unfolding lowest
+writing-none s at n p a boxes q e = rw e (record { within = omega arith; same = refl; room = refl; bytes = rw sub-zero })
+
+module _ {s : List ℕ} {at n : ℕ} {p : Phase} {a : ℕ} {boxes : List StorageBox} {l : List ℕ} {end left b : ℕ} (w : Writing s at n p a boxes l end left b) where
+  module _ (h : b < n) {l' : List ℕ} {end' left' : ℕ} where
+    pub box-skipped : getD boxes b box0 .stopped ≡ true → l' ≡ l → end' ≡ end → left' ≡ left → Writing s at n p a boxes l' end' left' (b + 1)
+    box-skipped o el ee ef =
+        rw (el, ee, ef) (record {
+          within = omega arith;
+          same = w .same;
+          room = w .room;
+          bytes = rw (one-box n b h, phase-skip (n - (b + 1)) b boxes p a left o) at (w .bytes);
+        })
+
+    pub box-spared : left ≤ 0 → l' ≡ l → end' ≡ end → left' ≡ left → Writing s at n p a boxes l' end' left' (b + 1)
+    box-spared z el ee ef =
+        let o : left ≡ 0 = omega arith in
+        rw (el, ee, ef) (record { within = omega arith; same = w .same; room = w .room; bytes = rw (o, phase-enough) (rw (o, phase-enough) at (w .bytes)) })
+
+    pub box-asked : {x : List ℕ} → getD boxes b box0 .stopped ≡ false → 0 < left → l' ≡ x → length x ≡ length l
+        → take (end + 16) x ≡ take end l ++ flatten (exchange p a b) → end' ≡ end + 16 → left' ≡ left - 1 → Writing s at n p a boxes l' end' left' (b + 1)
+    unfolding flatten exchange
+    box-asked o z el es eb ee ef =
+        rw (el, ee, ef) (record {
+          within = omega arith;
+          same = es ∙ w .same;
+          room = omega (arith, w .room);
+          bytes =
+              rw (eb, append-assoc (take end l))
+              (rw (one-box n b h, phase-take (n - (b + 1)) b boxes p a left (left - 1) (omega arith) o) at (w .bytes));
+        })
+
+  pub writing-all : n ≤ b → (end ≤ at + 16 * quorum n) × (take end l ≡ take at s ++ flatten (exchanges p a (lowest (quorum n) boxes n)))
+  unfolding flatten
+  writing-all h =
+      let e : n - b ≡ 0 = omega arith in
+      (omega (arith, w .room), rw (e, phase-over, append-nil (take end l)) at (w .bytes))
+
+-- Both phases are written, with the places m and end behind them: the run of the begin and of the records there is that of the plan.
+module _ (f : Floor) (l l' : List ℕ) (m end : ℕ) where
+  pub plan-written : take m l ≡ flatten (exchanges Read (f .used) (askedOf f)) → take end l' ≡ take m l ++ flatten (exchanges Write (f .used) (askedOf f))
+      → take end l' ≡ flatten (exchangesOf f)
+  unfolding exchangesOf
+  plan-written r w = w ∙ rw r (sym (joined-append (exchanges Read (f .used) (askedOf f)) (exchanges Write (f .used) (askedOf f))))
+
+module _ (f : Floor) (s v round : ℕ) (r l : List ℕ) (x : Ran) where
+  pub plan-run : Sound f → round ≡ roundOf f s → r ≡ encodeOf (Begin s round v) → l ≡ flatten (exchangesOf f)
+      → x ≡ runOf End f r (recordsFrom (length l / 8) l 0) → x ≡ runOf End f (beginOf f s v) (exchangesOf f)
+  plan-run z hr er el ex =
+      let again = records-again (exchangesOf f) (plan-rest f (omega (arith, z .rows-most)) (omega (arith, z .box-most))) in
+      ex ∙ rw (er, hr, el, again)

@@ -1,0 +1,76 @@
+-- What is claimed of a solo finish. The proof is `solo-claims` in proofs/Claims.
+use Prim.Native.Nat.{ℕ, suc, _+_, _*_, _≤_, _<_}
+use mathlib.Core.Path.{_≡_}
+use mathlib.Core.Logic.{_⊎_}
+use mathlib.Core.Bool.{false}
+use mathlib.Core.List.{List}
+use lib.ListN.{length}
+use Rattle.base.specs.Numbers.{quorum, rankOf}
+use Rattle.commands.specs.Outcomes.{isRefused}
+use Rattle.commands.specs.declared.Outcome.the-variants.{Aborted, Decided}
+use Rattle.attempts.specs.declared.State.the-variants.{Idle}
+use Rattle.floor.specs.Floors.{boxAt, stationAt, rowAt, newFloorOf}
+use Rattle.floor.specs.Step.{stepOf}
+use Rattle.floor.specs.Runs.{floorAt, saidAt}
+use Rattle.floor.specs.Claims.{Sound, Lengths}
+use Rattle.floor.specs.declared.Floor.{Floor}
+use Rattle.solo.specs.Plan.{highestBegun, roundOf, answering, planOf}
+use Rattle.solo.specs.Solo.{turnedAway, soloOf}
+use Rattle.solo.specs.declared.Solo.{Solo}
+
+-- "the smallest round, at least 1, whose rank passes every rank begun on the floor"
+pub record Smallest (f : Floor) (s round : ℕ) : Type 0 where
+  pub some : 1 ≤ round
+  pub passes : (a : ℕ) → a < f .used → rowAt f a .rank < rankOf round s
+  pub least : (r : ℕ) → 1 ≤ r → ((a : ℕ) → a < f .used → rowAt f a .rank < rankOf r s) → round ≤ r
+
+-- "the solo finish's step count is in its result struct and equals the length of the step list that leads to the returned floor": d is what the first records of the list l
+-- did to f, as many as d counts: each of them was accepted, and the last of them said what d says, unless d says a refusal
+pub record Counted (f : Floor) (l : List (List ℕ)) (d : Solo) : Type 0 where
+  pub within : d .steps ≤ length l
+  pub reached : d .floor ≡ floorAt f l (d .steps)
+  pub accepted : (i : ℕ) → i < d .steps → isRefused (saidAt f l i) ≡ false
+  pub last : isRefused (d .outcome) ≡ false → (i : ℕ) → suc i ≡ d .steps → saidAt f l i ≡ d .outcome
+
+-- What holds of a new floor and is kept by every step: no box has served, and no station has begun, a rank above the highest
+-- begun. A floor built by hand may lack it.
+pub record Lawful (f : Floor) : Type 0 where
+  pub sound : Sound f
+  pub lengths : Lengths f
+  pub read : (b : ℕ) → boxAt f b .register .read ≤ highestBegun f
+  pub write : (b : ℕ) → boxAt f b .register .write ≤ highestBegun f
+  pub last : (s : ℕ) → (stationAt f s .last ≡ 0) ⊎ (rankOf (stationAt f s .last) s ≤ highestBegun f)
+
+-- the station s is idle and may offer v, and nothing stands in its way
+pub record Ready (f : Floor) (s v : ℕ) : Type 0 where
+  pub station : s < f .m
+  pub idle : stationAt f s .state ≡ Idle
+  pub offer : 1 ≤ v
+  pub round : roundOf f s ≤ 65535
+  pub row : f .used < 64
+  pub boxes : quorum (f .n) ≤ length (answering f)
+
+-- it says decided, with some revision, after 4q + 1 steps
+pub record DecidesAlone (f : Floor) (d : Solo) : Type 0 where
+  pub revision : ℕ
+  pub said : d .outcome ≡ Decided revision
+  pub steps : d .steps ≡ 4 * quorum (f .n) + 1
+
+-- What a solo finish on any floor comes to, one built by hand too: it is turned back with 0 steps and leaves the floor, or it takes
+-- 4q + 1 steps, at the last of which the station decides or the attempt, the floor's next row, aborts.
+pub data Ends (f : Floor) (d : Solo) : Type 0 where
+  turned : (k : ℕ) → d ≡ turnedAway f k → Ends f d
+  decided : (v : ℕ) → d .outcome ≡ Decided v → d .steps ≡ 4 * quorum (f .n) + 1 → Ends f d
+  aborted : d .outcome ≡ Aborted (f .used) → d .steps ≡ 4 * quorum (f .n) + 1 → Ends f d
+
+-- What holds of every solo finish.
+pub record SoloClaims : Type 0 where
+  pub smallest : (f : Floor) (s : ℕ) → Smallest f s (roundOf f s)
+  -- refused solo finishes too
+  pub counted : (f : Floor) (s v : ℕ) → Counted f (planOf f s v) (soloOf f s v)
+  pub ends : (f : Floor) (s v : ℕ) → Lengths f → Ends f (soloOf f s v)
+  -- "an idle station driven alone, whatever revision it offers, decides in exactly 4q + 1 steps", on a lawful floor; every floor that a
+  -- list of steps from a new floor reaches is one
+  pub decides : (f : Floor) (s v : ℕ) → Lawful f → Ready f s v → DecidesAlone f (soloOf f s v)
+  pub new-lawful : (n m : ℕ) → Lawful (newFloorOf n m .floor)
+  pub lawful : (f : Floor) (r : List ℕ) → Lawful f → Lawful (stepOf f r .floor)
