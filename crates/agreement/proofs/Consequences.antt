@@ -13,7 +13,7 @@ use Rattle.base.proofs.Choices.{on-true, on-false}
 use Rattle.floor.specs.Floors.{stationAt}
 use Rattle.attempts.specs.Stations.{isGone, isBusy}
 use Rattle.floor.specs.Claims.{Sound, StationMove, station-kept, station-begins, station-issues, station-decides, station-aborts, station-leaves}
-use Rattle.commands.specs.Commands.{between, commandOf}
+use Rattle.commands.specs.Commands.{commandOf}
 use Rattle.floor.specs.Refusals.{beginRefusal}
 use Rattle.commands.specs.Outcomes.{isRefused}
 use Rattle.floor.specs.Step.{applyOf, stepOf}
@@ -42,7 +42,7 @@ use Rattle.agreement.proofs.Standing.{stations-at, sound-at}
 
 -- a record with no bytes is malformed
 no-bytes : commandOf [] ≡ Malformed
-unfolding commandOf between if_then_else_
+unfolding commandOf if_then_else_
 no-bytes = refl
 
 malformed : {f : Floor} {s : Stepped} → StepCase f Malformed s → isRefused (s .outcome) ≡ true

@@ -1,5 +1,6 @@
 -- Demand 3, for every list of records and any n and m.
 use Prim.Native.Nat.{ℕ, zero, suc, _+_, _≤_, _<_}
+use native.Mathlib.Nat.{add-zero}
 use native.Mathlib.Omega.{arith}
 use mathlib.Core.Path.{_≡_, refl, sym, ap, subst, _∙_}
 use mathlib.Core.Bool.{false}
@@ -19,7 +20,6 @@ use Rattle.commands.specs.declared.Command.{Command}
 use Rattle.commands.specs.declared.Command.the-variants.{Begin}
 use Rattle.commands.specs.declared.Outcome.the-variants as said
 use Rattle.base.proofs.Cases.{clash}
-use Rattle.commands.proofs.Encodings.{decode-encode}
 use Rattle.floor.proofs.StepCases.{StepCase, turned, began, step-case}
 use Rattle.floor.specs.Claims.{Lengths}
 use Rattle.floor.proofs.Keeps.{row-stored}
@@ -32,6 +32,7 @@ use Rattle.solo.proofs.CountLaws.{solo-counted}
 use Rattle.base.proofs.RecordLaws.{all-take}
 use Rattle.solo.proofs.LawfulLaws.{after-lawful, new-lawful}
 use Rattle.solo.proofs.Decides.{solo-decides}
+use Rattle.solo.proofs.PlanLaws.{plan-begins}
 use Rattle.solo.proofs.PlanRecords.{plan-records}
 use Rattle.agreement.specs.Words.{commandAt, DecidesAt}
 use Rattle.floor.specs.Runs.{floorAt, floorLeft, saidAt}
@@ -99,7 +100,7 @@ module _ (f : Floor) (l : List (List ℕ)) (new : New f) (s v : ℕ) (y : Lawful
   some = omega (arith, number, decided-steps .steps)
 
   first-step : commandAt steps 0 ≡ Begin s (roundOf g s) v
-  first-step = ap commandOf (step-planned 0 (omega (arith, some)) .1) ∙ decode-encode (Begin s (roundOf g s) v)
+  first-step = ap commandOf (step-planned 0 (omega (arith, some)) .1) ∙ plan-begins g s v
 
   decides : (i : ℕ) → suc i ≡ length steps → DecidesAt f (l ++ steps) s (decided-steps .revision) (length l + i)
   decides i q =
@@ -115,10 +116,12 @@ module _ (f : Floor) (l : List (List ℕ)) (new : New f) (s v : ℕ) (y : Lawful
       own (suc i) q a e =
           rw (floor-behind f l steps (suc i), e) (own-row g (y .lengths) steps s (roundOf g s) v first-step (accepted 0 (omega (arith, some))) i .1)
 
-  alone : DrivenAlone f l s d
+  alone : DrivenAlone f l s v d
   alone = record {
     steps = steps;
     records = all-take (d .steps) plan (plan-records g s v (omega (arith, x .station, y .sound .station-most)) h (x .round) (omega (arith, x .row)) (omega (arith, y .sound .box-most)));
+    round = roundOf g s;
+    begins = ap commandOf (ap (λ (k : ℕ). getD (l ++ steps) k []) (sym (add-zero (length l))) ∙ getD-append-add l steps 0 []) ∙ first-step;
     accepted = λ i k. ap isRefused (said-behind f l steps i) ∙ accepted i k;
     floor = left-behind f l steps ∙ left-taken g plan (d .steps) (counted-steps .within) ∙ sym (counted-steps .reached);
     revision = decided-steps .revision;

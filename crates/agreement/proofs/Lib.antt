@@ -1,6 +1,6 @@
 -- In layers, each resting on those before it: the history of a run and what it shows of the floor; each kind of step as a step of the
 -- theory; the floors that a list reaches; the run by positions; safety; where stations and boxes stand; a station driven alone; demand 3;
--- lists worked through; files.
+-- the widths of numbers and the box record in C; lists worked through; files.
 pub mod Edits
 pub mod History
 pub mod Serves
@@ -15,5 +15,7 @@ pub mod Standing
 pub mod Consequences
 pub mod Alone
 pub mod Demand
+pub mod Widths
+pub mod Chain
 pub mod Worked
 pub mod Files

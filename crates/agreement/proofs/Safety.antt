@@ -87,7 +87,7 @@ module _ (f : Floor) (l : List (List ℕ)) where
           };
         }
 
-    served-at : (k r b : ℕ) → Serving (floorAt f l k) (commandAt l k) (saidAt f l k) r b → ServedAt f l r b k
+    pub served-at : (k r b : ℕ) → Serving (floorAt f l k) (commandAt l k) (saidAt f l k) r b → ServedAt f l r b k
     served-at k r b x = let o = row-at f l new k (x .attempt) (x .used) in record {
       attempt = o .attempt;
       named = o .named;

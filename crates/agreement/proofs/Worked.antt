@@ -1,23 +1,26 @@
 -- Document 01's examples I and J in the words of demand 3, so that the claim is not about nothing.
 use Prim.Native.Nat.{ℕ, zero, suc, _<_}
 use native.Mathlib.Omega.{arith}
-use mathlib.Core.Path.{_≡_, refl, sym, _∙_}
-use mathlib.Core.Bool.{Bool}
+use mathlib.Core.Path.{_≡_, refl, sym, ap, _∙_}
+use mathlib.Core.Logic.{_⊎_, inl, inr}
+use mathlib.Core.Bool.{Bool, true, false}
 use mathlib.Core.List.{List, [], _∷_}
 use lib.ListN.{length}
-use lib.Dec.{leb}
+use lib.Dec.{eqb, leb}
 use lib.Count.{ones, onesIn}
-use borrow.Author.Tests.{leb-true}
+use borrow.Author.Tests.{leb-true, eqb-true}
 use Rattle.base.specs.Choice.{if_then_else_}
 use Rattle.base.specs.Numbers.{sizesRight}
 use Rattle.base.specs.Mask.{bit, setBit, countBelow}
 use Rattle.base.specs.Quorum.{count}
+use Rattle.base.proofs.Cases.{by-cases, up-to}
+use Rattle.base.proofs.Choices.{on-true, on-false, both-true}
 use Rattle.register.specs.Register.{rmwRead, rmwWrite, takes}
 use Rattle.requests.specs.Requests.{standing, waitingBelow, atQuorum, stillYes, allYes}
 use Rattle.requests.specs.declared.Phase.the-variants.{Read, Write}
 use Rattle.floor.specs.Sound.{stationsBelow, soundOf}
-use Rattle.floor.specs.Floors.{newFloorOf}
-use Rattle.commands.specs.Commands.{allZero, between, phaseFrom, spared, commandOf, encodeOf}
+use Rattle.floor.specs.Floors.{boxAt, newFloorOf}
+use Rattle.commands.specs.Commands.{allZero, spared, commandOf, encodeOf}
 use Rattle.attempts.specs.Rows.{newRow, better, bestOf, revisionFrom, revisionOf, issued}
 use Rattle.floor.specs.Refusals.{beginRefusal, serveRefusal, deliverRefusal, stopRefusal}
 use Rattle.floor.specs.Effects.{writeEndedOn, deliveredOn}
@@ -27,59 +30,68 @@ use Rattle.commands.specs.declared.Command.the-variants.{Begin, Serve, Deliver,
 use Rattle.commands.specs.declared.Outcome.{Outcome}
 use Rattle.commands.specs.declared.Outcome.the-variants as said
 use Rattle.solo.specs.Solo.{soloOf}
-use Rattle.agreement.specs.Words.{commandAt, Attempt, ServedAt, DecidesAt, OutrankedAt, shownAt, IdleAt, attemptsBefore}
+use Rattle.agreement.specs.Words.{Before, commandAt, Attempt, attemptRank, Named, ServedAt, DecidesAt, AbortsAt, OutrankedAt, shownAt, Answering, IdleAt, attemptsBefore, RoundLeft}
 use Rattle.floor.specs.Runs.{floorAt, floorLeft, saidAt}
-use Rattle.agreement.specs.Demand.{firstFloor, DrivenAlone}
+use Rattle.agreement.specs.Demand.{DrivenAlone}
+use Rattle.agreement.specs.Worked.{exampleI, stops, three, five, heldAt, Worked}
 use Rattle.agreement.proofs.Demand.{demand3}
 use Rattle.agreement.proofs.Consequences.{consequences}
-
--- "I: n = 3. Attempt 0 (rank 16, 7) has read at boxes 0 and 1. Attempt 1 (rank 17, 9) reads and writes at 1 and 2 and decides 9.
--- Attempt 0's write is taken at 0, not at 1: it aborts. Its write at 2, served after that, is not taken." Behind it, two records
--- that are refused: one of no kind, and a begin of the station that decided.
-abbrev exampleI : List (List ℕ)
-exampleI =
-    encodeOf (Begin 0 1 7) ∷ encodeOf (Serve Read 0 0) ∷ encodeOf (Deliver Read 0 0) ∷ encodeOf (Serve Read 0 1) ∷ encodeOf (Deliver Read 0 1)
-    ∷ encodeOf (Begin 1 1 9) ∷ encodeOf (Serve Read 1 1) ∷ encodeOf (Deliver Read 1 1) ∷ encodeOf (Serve Read 1 2) ∷ encodeOf (Deliver Read 1 2)
-    ∷ encodeOf (Serve Write 1 1) ∷ encodeOf (Deliver Write 1 1) ∷ encodeOf (Serve Write 1 2) ∷ encodeOf (Deliver Write 1 2)
-    ∷ encodeOf (Serve Write 0 0) ∷ encodeOf (Deliver Write 0 0) ∷ encodeOf (Serve Write 0 1) ∷ encodeOf (Deliver Write 0 1) ∷ encodeOf (Serve Write 0 2)
-    ∷ (9 ∷ 255 ∷ []) ∷ encodeOf (Begin 1 2 5) ∷ []
-
--- "J: solo on a new floor of 5: 13 steps; with 2 stopped, 13"
-abbrev stops : List (List ℕ)
-stops = encodeOf (Stop 0) ∷ encodeOf (Stop 1) ∷ []
-
-abbrev three : Floor
-three = firstFloor 3 2
-
-abbrev five : Floor
-five = firstFloor 5 1
 
 -- boxes 2, 3 and 4, which have not stopped
 abbrev unstopped : ℕ → Bool
 unstopped b = leb 2 b
 
-pub record Worked : Type 0 where
-  pub decided : saidAt three exampleI 13 ≡ said.Decided 9
-  pub aborted : saidAt three exampleI 17 ≡ said.Aborted 0
-  pub malformed : saidAt three exampleI 19 ≡ said.Refused 7
-  pub over : saidAt three exampleI 20 ≡ said.Refused 10
-  pub shown : shownAt three exampleI 1 (length exampleI) ≡ 9
-  pub none : shownAt three exampleI 0 (length exampleI) ≡ 0
-  pub attempts : attemptsBefore three exampleI (length exampleI) ≡ 2
-  -- the read of attempt 1 is served at box 1
-  pub asked : commandAt exampleI 6 ≡ Serve Read 1 1
-  pub served : saidAt three exampleI 6 ≡ said.Served 1
-  pub begins : commandAt exampleI 5 ≡ Begin 1 1 9
-  pub begun : saidAt three exampleI 5 ≡ said.Begun 1
-  pub stop0 : saidAt five stops 0 ≡ said.Stopped 0
-  pub stop1 : saidAt five stops 1 ≡ said.Stopped 1
-  pub sizes : (five .n ≡ 5) × (five .m ≡ 1)
-  pub enough : count unstopped 5 ≡ 3
-  pub begun-none : attemptsBefore five stops 2 ≡ 0
+-- What was said in example I that a solo finish behind it asks about, as a number: which attempt was begun, from 1; 100 where a box was
+-- stopped or a station left
+abbrev noted : Outcome → ℕ
+noted (said.Begun a) = suc a
+noted (said.Served a) = 0
+noted (said.Received a) = 0
+noted (said.Aborted a) = 0
+noted (said.WriteIssued v) = 0
+noted (said.Decided v) = 0
+noted (said.Stopped b) = 100
+noted (said.Gone s) = 100
+noted (said.Refused k) = 0
 
-pub worked : Worked
-unfolding floorAt count if_then_else_ sizesRight newFloorOf stepOf applyOf playOf soundOf stationsBelow commandOf between allZero phaseFrom spared beginRefusal serveRefusal deliverRefusal stopRefusal standing bit setBit countBelow ones onesIn atQuorum newRow waitingBelow rmwRead rmwWrite takes deliveredOn better bestOf revisionFrom revisionOf issued writeEndedOn stillYes allYes
-worked = record {
+-- attempt 0 at the step 0 and attempt 1 at the step 5
+unfoldable expected : ℕ → ℕ
+expected k = if eqb k 0 then 1 else if eqb k 5 then 2 else 0
+
+-- up to the step k
+unfoldable asExpected : ℕ → Bool
+asExpected zero = true
+asExpected (suc k) = if eqb (noted (saidAt three exampleI k)) (expected k) then asExpected k else false
+
+-- What is computed: steps of the two lists, and of the floors behind them.
+record Computed : Type 0 where
+  decided : saidAt three exampleI 13 ≡ said.Decided 9
+  aborted : saidAt three exampleI 17 ≡ said.Aborted 0
+  malformed : saidAt three exampleI 19 ≡ said.Refused 7
+  over : saidAt three exampleI 20 ≡ said.Refused 10
+  shown : shownAt three exampleI 1 (length exampleI) ≡ 9
+  none : shownAt three exampleI 0 (length exampleI) ≡ 0
+  attempts : attemptsBefore three exampleI (length exampleI) ≡ 2
+  -- the read of attempt 1 is served at box 1
+  asked : commandAt exampleI 6 ≡ Serve Read 1 1
+  served : saidAt three exampleI 6 ≡ said.Served 1
+  begins : commandAt exampleI 5 ≡ Begin 1 1 9
+  begun : saidAt three exampleI 5 ≡ said.Begun 1
+  stop0 : saidAt five stops 0 ≡ said.Stopped 0
+  stop1 : saidAt five stops 1 ≡ said.Stopped 1
+  sizes : (five .n ≡ 5) × (five .m ≡ 1)
+  enough : count unstopped 5 ≡ 3
+  begun-none : attemptsBefore five stops 2 ≡ 0
+  -- behind example I: boxes 1 and 2 hold the revision of attempt 1, and box 0 that of attempt 0
+  first : (commandAt exampleI 0 ≡ Begin 0 1 7) × (saidAt three exampleI 0 ≡ said.Begun 0)
+  abort : commandAt exampleI 17 ≡ Deliver Write 0 1
+  noted-all : asExpected (length exampleI) ≡ true
+  held : (heldAt 0 ≡ 7) × (heldAt 1 ≡ 9) × (heldAt 2 ≡ 9)
+  all : (three .n ≡ 3) × (three .m ≡ 2) × (count (λ b. true) 3 ≡ 3)
+
+computed : Computed
+unfolding floorAt count asExpected expected if_then_else_ sizesRight newFloorOf stepOf applyOf playOf soundOf stationsBelow commandOf allZero spared beginRefusal serveRefusal deliverRefusal stopRefusal standing bit setBit countBelow ones onesIn atQuorum newRow waitingBelow rmwRead rmwWrite takes deliveredOn better bestOf revisionFrom revisionOf issued writeEndedOn stillYes allYes
+computed = record {
   decided = refl;
   aborted = refl;
   malformed = refl;
@@ -96,29 +108,34 @@ worked = record {
   sizes = (refl, refl);
   enough = refl;
   begun-none = refl;
+  first = (refl, refl);
+  abort = refl;
+  noted-all = refl;
+  held = (refl, refl, refl);
+  all = (refl, refl, refl);
 }
 
 rank-17 : ServedAt three exampleI 17 1 6
 rank-17 = record {
-  attempt = record { at = 5; station = 1; round = 1; offer = 9; number = 1; asked = worked .begins; begun = worked .begun };
+  attempt = record { at = 5; station = 1; round = 1; offer = 9; number = 1; asked = computed .begins; begun = computed .begun };
   named = record { earlier = omega arith; last = λ k h u. absurd (omega arith) };
   rank = refl;
   phase = Read;
-  asked = worked .asked;
-  accepted = worked .served;
+  asked = computed .asked;
+  accepted = computed .served;
 }
 
 -- by the claims: a station decided, and a rank above that of attempt 0 was served before it aborted
 decides : (s : ℕ) × DecidesAt three exampleI s 9 13
-decides = let d = consequences 3 2 exampleI .station 13 9 (worked .decided) in (d .0, d .2)
+decides = let d = consequences 3 2 exampleI .station 13 9 (computed .decided) in (d .0, d .2)
 
 outranked : OutrankedAt three exampleI 17
-outranked = demand3 3 2 exampleI .safety .abort 17 0 (worked .aborted)
+outranked = demand3 3 2 exampleI .safety .abort 17 0 (computed .aborted)
 
 -- both steps of `stops` stop a box below 2, and nothing else was said
 only-stops : (k : ℕ) (o : Outcome) → k < 2 → saidAt five stops k ≡ o → (b : ℕ) × (b < 2) × (o ≡ said.Stopped b)
-only-stops zero o h e = (0, omega arith, sym e ∙ worked .stop0)
-only-stops (suc zero) o h e = (1, omega arith, sym e ∙ worked .stop1)
+only-stops zero o h e = (0, omega arith, sym e ∙ computed .stop0)
+only-stops (suc zero) o h e = (1, omega arith, sym e ∙ computed .stop1)
 only-stops (suc (suc k)) o h e = absurd (omega arith)
 
 idle : IdleAt five stops 0 2
@@ -132,17 +149,108 @@ no-attempt : (x : Attempt five stops) → ¬ (x .at < 2)
 no-attempt x h = let e = only-stops (x .at) _ h (x .begun) .2 in let z : _≡_ {A = ℕ} 0 1 = cc in omega arith
 
 -- with 2 of 5 boxes stopped, whatever revision station 0 offers
-alone : (v : ℕ) → 0 < v → v < 4294967296 → DrivenAlone five stops 0 (soloOf (floorLeft five stops) 0 v)
+alone : (v : ℕ) → 0 < v → v < 4294967296 → DrivenAlone five stops 0 v (soloOf (floorLeft five stops) 0 v)
 alone v p q =
-    demand3 5 1 stops .solo 0 v (omega (arith, worked .sizes .1)) idle
+    demand3 5 1 stops .solo 0 v (omega (arith, computed .sizes .1)) idle
     (record {
       set = unstopped;
-      large = rw (worked .sizes .0) (omega (arith, worked .enough));
+      large = rw (computed .sizes .0) (omega (arith, computed .enough));
       each = λ b h t x. (let o = only-stops (x .at) _ (x .earlier) (x .holds) in let e : b ≡ o .0 = cc (o .2) in omega (arith, leb-true 2 b t, o .1));
     })
-    (omega (arith, worked .begun-none))
+    (omega (arith, computed .begun-none))
     (record { round = 1; least = omega arith; most = omega arith; outranks = λ x h. absurd (no-attempt x h) })
     p q
 
 thirteen : (v : ℕ) → 0 < v → v < 4294967296 → soloOf (floorLeft five stops) 0 v .steps ≡ 13
-thirteen v p q = omega (arith, alone v p q .count, worked .sizes .0)
+thirteen v p q = omega (arith, alone v p q .count, computed .sizes .0)
+
+-- Behind example I, where it is hard: station 0 is idle after its abort, and the boxes hold revisions, two of them another's.
+noted-upto : (n k : ℕ) → asExpected n ≡ true → k < n → noted (saidAt three exampleI k) ≡ expected k
+unfolding asExpected
+noted-upto zero k e h = absurd (omega arith)
+noted-upto (suc n) k e h =
+    let t = both-true _ _ e in
+    elim (up-to h) [
+      | inl q ↦ ap (λ (j : ℕ). noted (saidAt three exampleI j)) q ∙ eqb-true _ _ (t .0) ∙ ap expected (sym q)
+      | inr q ↦ noted-upto n k (t .1) q
+    ]
+
+noted-at : (k : ℕ) → k < 21 → (o : Outcome) → saidAt three exampleI k ≡ o → noted o ≡ expected k
+noted-at k h o e = ap noted (sym e) ∙ noted-upto 21 k (computed .noted-all) h
+
+expected-is : (k : ℕ) → ((k ≡ 0) × (expected k ≡ 1)) ⊎ ((k ≡ 5) × (expected k ≡ 2)) ⊎ (expected k ≡ 0)
+unfolding expected
+expected-is k =
+    by-cases (eqb k 0) (λ t. inl (eqb-true k 0 t, sym (on-true _ t refl)))
+    (λ t. by-cases (eqb k 5) (λ u. inr (inl (eqb-true k 5 u, sym (on-false _ t (on-true _ u refl))))) (λ u. inr (inr (sym (on-false _ t (on-false _ u refl))))))
+
+begun-at : (k a : ℕ) → k < 21 → saidAt three exampleI k ≡ said.Begun a → ((k ≡ 0) × (a ≡ 0)) ⊎ ((k ≡ 5) × (a ≡ 1))
+begun-at k a h e =
+    let q = noted-at k h (said.Begun a) e in
+    elim (expected-is k) [
+      | inl x ↦ inl (x .0, omega (arith, q, x .1))
+      | inr x ↦ elim x [ inl y ↦ inr (y .0, omega (arith, q, y .1)) | inr y ↦ absurd (omega (arith, q, y)) ]
+    ]
+
+nobody-left : (k : ℕ) → k < 21 → (o : Outcome) → noted o ≡ 100 → ¬ (saidAt three exampleI k ≡ o)
+nobody-left k h o n e =
+    let q = noted-at k h o e in
+    elim (expected-is k) [
+      | inl x ↦ omega (arith, q, n, x .1)
+      | inr x ↦ elim x [ inl y ↦ omega (arith, q, n, y .1) | inr y ↦ omega (arith, q, n, y) ]
+    ]
+
+-- the attempts of example I: that of station 0 at the step 0, and that of station 1 at the step 5
+attempt-is : (x : Attempt three exampleI) → x .at < 21
+    → ((x .at ≡ 0) × (x .number ≡ 0) × (x .station ≡ 0) × (x .round ≡ 1)) ⊎ ((x .at ≡ 5) × (x .number ≡ 1) × (x .station ≡ 1) × (x .round ≡ 1))
+attempt-is x h = elim (begun-at (x .at) (x .number) h (x .begun)) [
+  | inl o ↦ (let c : Begin (x .station) (x .round) (x .offer) ≡ Begin 0 1 7 = sym (x .asked) ∙ ap (commandAt exampleI) (o .0) ∙ computed .first .0 in inl (o .0, o .1, cc, cc))
+  | inr o ↦ (let c : Begin (x .station) (x .round) (x .offer) ≡ Begin 1 1 9 = sym (x .asked) ∙ ap (commandAt exampleI) (o .0) ∙ computed .begins in inr (o .0, o .1, cc, cc))
+]
+
+-- attempt 0 aborts at the step 17
+aborts : (x : Attempt three exampleI) → x .at ≡ 0 → x .number ≡ 0 → AbortsAt three exampleI x 17
+aborts x e n = record {
+  named = record {
+    earlier = omega arith;
+    last = λ k h u q. elim (begun-at k (x .number) (omega arith) q) [ inl o ↦ omega (arith, o .0) | inr o ↦ omega (arith, o .1) ];
+  };
+  box = 1;
+  asked = computed .abort ∙ ap (λ (a : ℕ). Deliver Write a 1) (sym n);
+  accepted = computed .aborted ∙ ap said.Aborted (sym n);
+}
+
+idle-behind : IdleAt three exampleI 0 21
+idle-behind = record {
+  here = λ x. nobody-left (x .at) (x .earlier) (said.Gone 0) refl (x .holds);
+  undecided = demand3 3 2 exampleI .safety .shown 0 21 .none (computed .none);
+  aborted = λ x h z. elim (attempt-is x h) [
+    | inl o ↦ record { at = 17; earlier = omega arith; holds = aborts x (o .0) (o .1) }
+    | inr o ↦ absurd (omega (arith, o .2, z))
+  ];
+}
+
+-- whatever revision it offers
+alone-behind : (v : ℕ) → 0 < v → v < 4294967296 → DrivenAlone three exampleI 0 v (soloOf (floorLeft three exampleI) 0 v)
+alone-behind v p q =
+    demand3 3 2 exampleI .solo 0 v (omega (arith, computed .all .1)) idle-behind
+    (record { set = λ b. true; large = rw (computed .all .0) (omega (arith, computed .all .2)); each = λ b h t x. nobody-left (x .at) (x .earlier) (said.Stopped b) refl (x .holds) })
+    (omega (arith, computed .attempts))
+    (record {
+      round = 2;
+      least = omega arith;
+      most = omega arith;
+      outranks = λ x h. elim (attempt-is x h) [ inl o ↦ omega (arith, o .2, o .3) | inr o ↦ omega (arith, o .2, o .3) ];
+    })
+    p q
+
+pub worked : Worked
+worked = record {
+  decides = decides;
+  outranked = outranked;
+  alone = alone;
+  thirteen = thirteen;
+  idle-behind = idle-behind;
+  held-behind = computed .held;
+  alone-behind = alone-behind;
+}

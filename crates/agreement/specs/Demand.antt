@@ -10,11 +10,12 @@ use Rattle.base.specs.Quorum.{AtLeast}
 use Rattle.floor.specs.Floors.{newFloorOf}
 use Rattle.commands.specs.Outcomes.{isRefused}
 use Rattle.floor.specs.declared.Floor.{Floor}
+use Rattle.commands.specs.declared.Command.the-variants.{Begin}
 use Rattle.commands.specs.declared.Outcome.the-variants as said
 use Rattle.solo.specs.Solo.{soloOf}
 use Rattle.base.specs.Records.{AllRecords}
 use Rattle.solo.specs.declared.Solo.{Solo}
-use Rattle.agreement.specs.Words.{Before, OfferedAt, DecidesAt, OutrankedAt, ShownAt, Answering, IdleAt, attemptsBefore, RoundLeft}
+use Rattle.agreement.specs.Words.{Before, commandAt, OfferedAt, DecidesAt, OutrankedAt, ShownAt, Answering, IdleAt, attemptsBefore, RoundLeft}
 use Rattle.floor.specs.Runs.{floorLeft, saidAt}
 
 -- "It .. starts from a new floor of any n and m." Where they are out of range that is the floor of one box and one station.
@@ -34,12 +35,15 @@ pub record Safety (n m : ℕ) (l : List (List ℕ)) : Type 0 where
   pub shown : (s i : ℕ) → ShownAt (firstFloor n m) l s i
 
 -- "Driven alone: by a solo finish for it, with any revision. Its steps put behind the list make the floor it hands back, the last of
--- them says decided, and its number is how many they are." The station s, behind the list l from the floor f; d is what the solo finish
--- hands back.
-pub record DrivenAlone (f : Floor) (l : List (List ℕ)) (s : ℕ) (d : Solo) : Type 0 where
+-- them says decided, and its number is how many they are." The station s with the revision v, behind the list l from the floor f; d is
+-- what the solo finish hands back.
+pub record DrivenAlone (f : Floor) (l : List (List ℕ)) (s v : ℕ) (d : Solo) : Type 0 where
   -- its steps, as 8-byte records
   pub steps : List (List ℕ)
   pub records : AllRecords steps
+  -- the first of them is the begin of this station with this revision
+  pub round : ℕ
+  pub begins : commandAt (l ++ steps) (length l) ≡ Begin s round v
   pub accepted : (i : ℕ) → i < length steps → isRefused (saidAt f (l ++ steps) (length l + i)) ≡ false
   pub floor : floorLeft f (l ++ steps) ≡ d .floor
   pub revision : ℕ
@@ -62,7 +66,7 @@ pub record Demand3 (n m : ℕ) (l : List (List ℕ)) : Type 0 where
       → RoundLeft (firstFloor n m) l s (length l)
       → 0 < v
       → v < 4294967296
-      → DrivenAlone (firstFloor n m) l s (soloOf (floorLeft (firstFloor n m) l) s v)
+      → DrivenAlone (firstFloor n m) l s v (soloOf (floorLeft (firstFloor n m) l) s v)
 
 -- "Demand 3 is a single claim about the list": it holds of every list, from a new floor of any n and m.
 abbrev pub Demand3Theorem : Type 0

@@ -1,4 +1,5 @@
 pub mod Answers
+pub mod Past
 pub mod StationTests
 pub mod WaitingLaws
 pub mod Claims

@@ -1,6 +1,6 @@
 // The row of an attempt: its two phases, the choice among the answers to its reads, and what a box's routine makes of it.
 ghost use mathlib.Core.Path.{_≡_};
-ghost use Prim.Native.Nat.{_<_, _≤_};
+ghost use Prim.Native.Nat.{_≤_};
 ghost use Rattle.requests.specs.declared.Phase.the-variants.{Read, Write};
 ghost use Rattle.requests.specs.Requests.{standingOf, isWaiting, isOnTheWay};
 ghost use Rattle.attempts.specs.Rows.{unusedRow, requestsOf, newRow, better, bestOf, revisionOf, issued, rowServed, registerServed, withRequests};
@@ -49,7 +49,6 @@ pub fn requests_of(w: Row, p: Phase) -> Requests
 
 // The row of an attempt that begins.
 pub fn new_row(n: u8, s: u8, round: u16, v: u32) -> Row
-    requires { ⌜ n ≤ 9 ⌝ }
     ensures { λ r. ⌜ r ≡ newRow n s round v ⌝ }
 {
     let none = Answer { rank: 0, value: 0 };
@@ -67,9 +66,8 @@ pub fn new_row(n: u8, s: u8, round: u16, v: u32) -> Row
     }
 }
 
-// The box's routine runs for the read of the row, and its answer is on the way.
+// The box's routine runs for the read of the row, and its answer is on the way. From box 9 on nothing is stored.
 fn serve_read(w: Row, held: Register, b: u8) -> Served
-    requires { ⌜ b < 9 ⌝ }
     ensures { λ r. ⌜ r ≡ record { row = rowServed Read w held b; register = registerServed Read w held } ⌝ }
 {
     let done = register::rmw_read(held, w.rank);
@@ -78,16 +76,17 @@ fn serve_read(w: Row, held: Register, b: u8) -> Served
     let read = requests::served(old, b, true);
     let mut row = w;
     row.read = read;
-    row.answers[b as usize] = Answer {
-        rank: done.rank,
-        value: done.value,
-    };
+    if b < 9 {
+        row.answers[b as usize] = Answer {
+            rank: done.rank,
+            value: done.value,
+        };
+    }
     Served { row, register }
 }
 
 // The same for its write.
 fn serve_write(w: Row, held: Register, b: u8) -> Served
-    requires { ⌜ b < 9 ⌝ }
     ensures { λ r. ⌜ r ≡ record { row = rowServed Write w held b; register = registerServed Write w held } ⌝ }
 {
     let done = register::rmw_write(held, w.rank, w.written);
@@ -100,7 +99,6 @@ fn serve_write(w: Row, held: Register, b: u8) -> Served
 }
 
 pub fn serve(w: Row, held: Register, p: Phase, b: u8) -> Served
-    requires { ⌜ b < 9 ⌝ }
     ensures { λ r. ⌜ r ≡ record { row = rowServed p w held b; register = registerServed p w held } ⌝ }
 {
     match p {
@@ -111,7 +109,6 @@ pub fn serve(w: Row, held: Register, p: Phase, b: u8) -> Served
 
 // The request of that phase waits at box b.
 pub fn waits(w: Row, p: Phase, b: u8) -> bool
-    requires { ⌜ b < 9 ⌝ }
     ensures { λ r. ⌜ r ≡ isWaiting (standingOf (requestsOf p w) b) ⌝ }
 {
     match p {
@@ -128,7 +125,6 @@ pub fn waits(w: Row, p: Phase, b: u8) -> bool
 
 // The answer of that phase is on the way from box b.
 pub fn comes(w: Row, p: Phase, b: u8) -> bool
-    requires { ⌜ b < 9 ⌝ }
     ensures { λ r. ⌜ r ≡ isOnTheWay (standingOf (requestsOf p w) b) ⌝ }
 {
     match p {
@@ -203,8 +199,7 @@ fn best_of(answers: [Answer; 9], h: Requests, n: u8) -> Best
     x
 }
 
-// The revision that the attempt writes.
-pub fn revision_of(w: Row, n: u8) -> u32
+fn revision_below(w: Row, n: u8) -> u32
     requires { ⌜ n ≤ 9 ⌝ }
     ensures { λ r. ⌜ r ≡ revisionOf w n ⌝ }
 {
@@ -217,9 +212,18 @@ pub fn revision_of(w: Row, n: u8) -> u32
     x.value
 }
 
+// The revision that the attempt writes. From box 9 on there is no answer that could be better.
+pub fn revision_of(w: Row, n: u8) -> u32
+    ensures { λ r. ⌜ r ≡ revisionOf w n ⌝ }
+{
+    if n <= 9 {
+        return revision_below(w, n);
+    }
+    revision_below(w, 9)
+}
+
 // The row with its write of v issued.
 pub fn issue(w: Row, v: u32, n: u8) -> Row
-    requires { ⌜ n ≤ 9 ⌝ }
     ensures { λ r. ⌜ r ≡ issued w v n ⌝ }
 {
     let write = requests::issued(n);

@@ -1,12 +1,12 @@
 -- A number and its bytes: each determines the other, also where the bytes stand in a longer list.
-use mathlib.Core.Path.{_≡_, refl, sym, _∙_}
+use mathlib.Core.Path.{_≡_, refl, sym, ap, _∙_}
 use mathlib.Core.List.{List, [], _∷_}
 use Prim.Native.Nat.{ℕ, zero, suc, _+_, _/_, _%_, _^_, _≤_, _<_}
 use native.Mathlib.Numerals.{towards-suc}
 use native.Mathlib.Omega.{arith}
 use lib.ListN.{length, getD, take, drop}
-use lib.Seq.{drop-cons}
-use Rattle.base.specs.Bytes.{Bytes, word16, word32, bytes16, bytes32, wordAt}
+use lib.Seq.{drop-cons, length-sets, sets-eq}
+use Rattle.base.specs.Bytes.{Bytes, word16, word32, bytes16, bytes32, wordAt, withWord}
 
 -- ---- a list of bytes, place by place; past its end stands 0
 pub bytes-below : (s : List ℕ) → Bytes s → (i : ℕ) → getD s i 0 < 256
@@ -49,6 +49,11 @@ bytes32-length x = refl
 
 pub bytes32-bytes : (x : ℕ) → x < 2 ^ 32 → Bytes (bytes32 x)
 bytes32-bytes x h = omega arith
+
+-- a list keeps its length where a number is stored in it
+pub with-word-length : (s : List ℕ) (at x : ℕ) → at + 4 ≤ length s → length (withWord s at x) ≡ length s
+unfolding withWord
+with-word-length s at x h = ap length (sym (sets-eq (bytes32 x) s at h)) ∙ length-sets s at (bytes32 x)
 
 -- ---- the number whose four bytes stand at a place of a list of bytes
 module _ (s : List ℕ) (b : Bytes s) (at : ℕ) where

@@ -15,6 +15,11 @@ pub on-false : {A : Type 0} {t : Bool} {r y : A} (x : A) → t ≡ false → r �
 unfolding if_then_else_
 on-false x e h = rw e h
 
+-- and what came of a choice whose test holds
+pub chosen : {A : Type 0} {t : Bool} {r x : A} (y : A) → t ≡ true → r ≡ (if t then x else y) → r ≡ x
+unfolding if_then_else_
+chosen y e h = rw e at h
+
 -- what holds of both branches, each with the test's value in hand, holds of the choice
 pub by-test : {A : Type 0} (P : A → Type 0) (t : Bool) (x y : A) → (t ≡ true → P x) → (t ≡ false → P y) → P (if t then x else y)
 unfolding if_then_else_
@@ -43,3 +48,15 @@ pub passed : (t : Bool) (k x : ℕ) → (if t then k else x) ≡ 0 → 0 < k →
 unfolding if_then_else_
 passed true k x e h = absurd (omega arith)
 passed false k x e h = (refl, e)
+
+-- what is made of a choice is the choice of what is made
+pub choice-ap : {A B : Type 0} (g : A → B) (t : Bool) (x y : A) → g (if t then x else y) ≡ (if t then g x else g y)
+unfolding if_then_else_
+choice-ap g true x y = refl
+choice-ap g false x y = refl
+
+-- two tests with one answer are one test
+pub choice-either : {A : Type 0} (t u : Bool) (x y : A) → (if (if t then true else u) then x else y) ≡ (if t then x else if u then x else y)
+unfolding if_then_else_
+choice-either true u x y = refl
+choice-either false u x y = refl

@@ -1,7 +1,8 @@
 -- The claims, proved.
-use Rattle.base.specs.Claims.{SizeClaims, Spelling, Quorums, Masks}
+use Rattle.base.specs.Claims.{SizeClaims, Spelling, PartClaims, Quorums, Masks}
 use Rattle.base.proofs.SizeLaws.{sizes-mean, sizes-hold}
 use Rattle.base.proofs.ByteLaws.{word16-of-bytes, word32-of-bytes, bytes16-of-word, bytes32-of-word, bytes16-length, bytes32-length, bytes16-bytes, bytes32-bytes}
+use Rattle.base.proofs.PartLaws.{part-length, part-whole, part-part, part-same, part-once}
 use Rattle.base.proofs.QuorumLaws.{more-than-half, majority-of, majority-meet}
 use Rattle.base.proofs.MaskLaws.{bit-zero, bit-same, bit-other, count-bits, count-more, count-present, count-past, count-at-most, count-agree, setBit-fits, mask-majority}
 
@@ -19,6 +20,9 @@ spelling = record {
   fits16 = bytes16-bytes;
   fits32 = bytes32-bytes;
 }
+
+pub part-claims : PartClaims
+part-claims = record { whole = part-whole; inner = part-part; same = part-same; once = part-once; sized = part-length }
 
 pub quorums : Quorums
 quorums = record { more-than-half = more-than-half; enough = λ n P s. majority-of s; shared = λ n P Q. majority-meet }

@@ -2,8 +2,10 @@ pub mod Cases
 pub mod Choices
 pub mod Tests
 pub mod Stores
+pub mod Room
 pub mod ByteLaws
 pub mod RecordLaws
+pub mod PartLaws
 pub mod SizeLaws
 pub mod QuorumLaws
 pub mod MaskLaws

@@ -3,11 +3,11 @@ use mathlib.Core.Path.{_≡_, refl, sym, ap, subst, _∙_}
 use mathlib.Core.Bool.{Bool, true, false}
 use Prim.Native.Nat.{ℕ, zero, suc, _+_, _/_, _%_, _^_, _≤_, _<_, max}
 use native.Mathlib.Decide.{ℕ-discrete}
-use native.Mathlib.Nat.{mod-lt, mod-one, zero-mod, zero-div, div-self, div-eq-of-lt, pow-suc, mul-div-mul-right}
+use native.Mathlib.Nat.{lt-of-lt-of-le, mod-lt, mod-eq-of-lt, mod-one, zero-mod, zero-div, div-self, div-eq-of-lt, pow-suc, mul-div-mul-right}
 use native.Mathlib.Numerals.{one-add}
 use native.Mathlib.Omega.{arith}
 use lib.Dec.{eqb}
-use lib.Pow.{pow-pos, pow-lt, mod-pow-add}
+use lib.Pow.{pow-pos, pow-mono, pow-lt, mod-pow-add}
 use lib.Bits.{bitOr, or-shr, or-step, or-lt}
 use lib.Count.{ones, onesIn, ones-cat}
 use Rattle.base.specs.Numbers.{quorum}
@@ -61,12 +61,17 @@ pub bit-zero : (b : ℕ) → bit 0 b ≡ false
 unfolding bit
 bit-zero b = let z : digit 0 b ≡ 0 = omega (arith, zero-div (2 ^ b)) in ap isOne z
 
--- a mask of k digits stays one where a box below k is added: a u16 for k = 16
+-- a mask of k digits has none from k on: a u16 for k = 16
+pub bit-past : (k m b : ℕ) → m < 2 ^ k → k ≤ b → bit m b ≡ false
+unfolding bit
+bit-past k m b h p = let z : digit m b ≡ 0 = omega (arith, div-eq-of-lt (lt-of-lt-of-le h (pow-mono p))) in ap isOne z
+
+-- and stays one where a box below k is added
 pub setBit-fits : (k m b : ℕ) → m < 2 ^ k → b < k → setBit m b < 2 ^ k
 unfolding setBit
 setBit-fits k m b h p = or-lt k m (2 ^ b) h (pow-lt p)
 
-count-suc : (m n : ℕ) → countBelow m (suc n) ≡ countBelow m n + indicator (bit m n)
+pub count-suc : (m n : ℕ) → countBelow m (suc n) ≡ countBelow m n + indicator (bit m n)
 unfolding countBelow bit
 count-suc m n =
     ap (λ (j : ℕ). ones (m % 2 ^ j)) (sym (one-add n))
@@ -98,6 +103,11 @@ count-present m b n e = count-agree (setBit m b) m n (λ j p. elim (ℕ-discrete
   | yes q ↦ subst (λ (i : ℕ). bit (setBit m b) i ≡ bit m i) (sym q) (bit-same m b ∙ sym e)
   | no q ↦ bit-other m b j q
 ])
+
+-- of a mask of k digits all ones are below k
+pub count-all : (k m n : ℕ) → m < 2 ^ k → k ≤ n → countBelow m n ≡ ones m
+unfolding countBelow
+count-all k m n h p = ap ones (mod-eq-of-lt (lt-of-lt-of-le h (pow-mono p)))
 
 pub count-zero : (n : ℕ) → countBelow 0 n ≡ 0
 unfolding countBelow ones

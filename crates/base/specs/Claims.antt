@@ -1,13 +1,15 @@
--- What is claimed of the sizes of a floor, of the bytes of numbers, and of sets of boxes. The proofs are `sizes`, `spelling`, `quorums` and
--- `masks` in proofs/Claims.
+-- What is claimed of the sizes of a floor, of the bytes of numbers, of parts of slices, and of sets of boxes. The proofs are `sizes`,
+-- `spelling`, `part-claims`, `quorums` and `masks` in proofs/Claims.
 use mathlib.Core.Path.{_≡_}
 use mathlib.Core.Logic.{_↔_}
 use mathlib.Core.Bool.{Bool, true, false}
-use mathlib.Core.List.{[], _∷_}
+use mathlib.Core.List.{List, [], _∷_}
 use Prim.Native.Nat.{ℕ, _+_, _*_, _/_, _%_, _^_, _≤_, _<_}
 use lib.ListN.{length}
+use denote.Ref.{RefT}
 use Rattle.base.specs.Numbers.{sizesRight, quorum}
 use Rattle.base.specs.Bytes.{Bytes, word16, word32, bytes16, bytes32}
+use Rattle.base.specs.Part.{IsPart}
 use Rattle.base.specs.Mask.{bit, setBit, countBelow}
 use Rattle.base.specs.Quorum.{count, Majority}
 
@@ -35,6 +37,16 @@ pub record Spelling : Type 0 where
   pub four : (x : ℕ) → length (bytes32 x) ≡ 4
   pub fits16 : (x : ℕ) → x < 65536 → Bytes (bytes16 x)
   pub fits32 : (x : ℕ) → x < 2 ^ 32 → Bytes (bytes32 x)
+
+-- Parts of slices of bytes.
+pub record PartClaims : Type 0 where
+  -- a slice is the part of itself from its start on, and a part of a part is a part of the whole
+  pub whole : (s : RefT (List ℕ)) → IsPart s s 0 (length (s .now))
+  pub inner : (r t s : RefT (List ℕ)) (a k b j : ℕ) → IsPart t s a k → IsPart r t b j → IsPart r s (a + b) j
+  -- start and number of bytes tell the part, its place and its bytes; and the part tells these two, so equal bytes elsewhere are another part
+  pub same : (r t s : RefT (List ℕ)) (a k : ℕ) → IsPart r s a k → IsPart t s a k → (r .ptr ≡ t .ptr) × (r .now ≡ t .now)
+  pub once : (r s : RefT (List ℕ)) (a k b j : ℕ) → IsPart r s a k → IsPart r s b j → (a ≡ b) × (k ≡ j)
+  pub sized : (r s : RefT (List ℕ)) (a k : ℕ) → IsPart r s a k → length (r .now) ≡ k
 
 -- Sets of boxes.
 pub record Quorums : Type 1 where

@@ -1,5 +1,5 @@
 -- Document 01, "The drill file": records of 8 bytes in a list of bytes.
-use Prim.Native.Nat.{ℕ, zero, suc, _+_}
+use Prim.Native.Nat.{ℕ, zero, suc, _+_, _/_}
 use mathlib.Core.Path.{_≡_}
 use mathlib.Core.List.{List, [], _∷_}
 use lib.ListN.{length, getD}
@@ -22,6 +22,10 @@ recordAt s p =
 unfoldable pub recordsFrom : (k : ℕ) (s : List ℕ) (p : ℕ) → List (List ℕ)
 recordsFrom zero s p = []
 recordsFrom (suc k) s p = recordAt s p ∷ recordsFrom k s (p + 8)
+
+-- the records of a list of bytes; bytes behind the last whole record are none
+abbrev pub recordsIn : (s : List ℕ) → List (List ℕ)
+recordsIn s = recordsFrom (length s / 8) s 0
 
 -- a record: 8 bytes
 pub record IsRecord (r : List ℕ) : Type 0 where

@@ -1,7 +1,9 @@
 // What several crates compute: big-endian numbers, the size of a quorum, and refusal 3.
 ghost use mathlib.Core.Path.{_≡_};
-ghost use Prim.Native.Nat.{_+_, _≤_};
+ghost use Prim.Native.Nat.{_+_};
+ghost use lib.Dec.{leb};
 ghost use lib.ListN.{length};
+ghost use Rattle.base.specs.Choice.{if_then_else_};
 ghost use Rattle.base.specs.Numbers.{sizesRight, quorum};
 ghost use Rattle.base.specs.Bytes.{word16, word32, bytes16, bytes32, wordAt, withWord};
 
@@ -37,19 +39,29 @@ pub fn split32(x: u32) -> [u8; 4]
     ]
 }
 
-// The number whose four bytes stand from a place on.
+// The number whose four bytes stand from a place on. Past the end nothing is read: 0.
 pub fn get_u32(s: &[u8], at: usize) -> u32
-    requires { ⌜ at + 4 ≤ length (now s) ⌝ }
-    ensures { λ y. ⌜ y ≡ wordAt (now (s .entry)) at ⌝ }
+    ensures { λ y. ⌜ y ≡ (if leb (at + 4) (length (now (s .entry))) then wordAt (now (s .entry)) at else 0) ⌝ }
 {
+    if s.len() < 4 {
+        return 0;
+    }
+    if s.len() - 4 < at {
+        return 0;
+    }
     be32(s[at], s[at + 1], s[at + 2], s[at + 3])
 }
 
-// Stores a number's four bytes from a place on.
+// Stores a number's four bytes from a place on. Past the end nothing is stored.
 pub fn put_u32(s: &mut [u8], at: usize, x: u32)
-    requires { ⌜ at + 4 ≤ length (now s) ⌝ }
-    ensures { λ _. ⌜ now (s .exit) ≡ withWord (now (s .entry)) at x ⌝ }
+    ensures { λ _. ⌜ now (s .exit) ≡ (if leb (at + 4) (length (now (s .entry))) then withWord (now (s .entry)) at x else now (s .entry)) ⌝ }
 {
+    if s.len() < 4 {
+        return;
+    }
+    if s.len() - 4 < at {
+        return;
+    }
     let bytes = split32(x);
     s[at] = bytes[0];
     s[at + 1] = bytes[1];

@@ -1,4 +1,3 @@
-pub mod Ranges
 pub mod Encodings
 pub mod OutcomeLaws
 pub mod Claims

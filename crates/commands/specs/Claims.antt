@@ -1,7 +1,8 @@
 -- What is claimed of records and outcomes. The proof is `command-claims` in proofs/Claims.
-use Prim.Native.Nat.{_<_}
+use Prim.Native.Nat.{ℕ, _<_}
 use mathlib.Core.Path.{_≡_}
 use mathlib.Core.Bool.{false}
+use mathlib.Core.List.{List}
 use lib.ListN.{length}
 use Rattle.base.specs.Bytes.{Bytes}
 use Rattle.commands.specs.Commands.{commandOf, encodeOf}
@@ -24,5 +25,7 @@ pub record CommandClaims : Type 0 where
   pub decodes : (c : Command) → commandOf (encodeOf c) ≡ c
   pub eight : (c : Command) → length (encodeOf c) ≡ 8
   pub bytes : (c : Command) → Fielded c → Bytes (encodeOf c)
+  -- a record of bytes has fields that the code's types hold
+  pub fields : (r : List ℕ) → Bytes r → Fielded (commandOf r)
   -- what is no refusal has the number 0
   pub accepted : (o : Outcome) → isRefused o ≡ false → numberOf o ≡ 0

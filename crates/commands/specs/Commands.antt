@@ -1,13 +1,12 @@
 -- Document 01, "Steps" and "The drill file": a step as it is asked for, and its 8-byte record.
-use Prim.Native.Nat.{ℕ, _-_}
+use Prim.Native.Nat.{ℕ}
 use mathlib.Core.List.{List, [], _∷_, _++_}
 use mathlib.Core.Bool.{Bool, true, false}
 use lib.ListN.{getD, drop, replicate}
-use lib.Dec.{eqb, leb}
+use lib.Dec.{eqb}
 use Rattle.base.specs.Choice.{if_then_else_}
 use Rattle.base.specs.Bytes.{word16, word32, bytes16, bytes32}
 use Rattle.requests.specs.Requests.{ofPhase}
-use Rattle.requests.specs.declared.Phase.{Phase}
 use Rattle.requests.specs.declared.Phase.the-variants.{Read, Write}
 use Rattle.commands.specs.declared.Command.{Command}
 use Rattle.commands.specs.declared.Command.the-variants.{Begin, Serve, Deliver, Stop, Leave, Malformed}
@@ -16,13 +15,6 @@ use Rattle.commands.specs.declared.Command.the-variants.{Begin, Serve, D
 unfoldable pub allZero : (bytes : List ℕ) → Bool
 allZero [] = true
 allZero (x ∷ l) = if eqb x 0 then allZero l else false
-
-unfoldable pub between : (low high k : ℕ) → Bool
-between low high k = if leb low k then leb k high else false
-
--- the first of two kinds is the read's, the second the write's
-unfoldable pub phaseFrom : (k : ℕ) → Phase
-phaseFrom k = if eqb k 0 then Read else Write
 
 -- the command c, of a record whose bytes behind its fields are `spare`; 7: "or a byte that should be zero is not"
 unfoldable pub spared : (spare : List ℕ) (c : Command) → Command
@@ -36,8 +28,10 @@ unfoldable pub commandOf : (r : List ℕ) → Command
 commandOf r =
     if eqb (getD r 0 0) 1 then
     Begin (getD r 1 0) (word16 (getD r 2 0) (getD r 3 0)) (word32 (getD r 4 0) (getD r 5 0) (getD r 6 0) (getD r 7 0))
-    else if between 2 3 (getD r 0 0) then spared (drop 3 r) (Serve (phaseFrom (getD r 0 0 - 2)) (getD r 1 0) (getD r 2 0))
-    else if between 4 5 (getD r 0 0) then spared (drop 3 r) (Deliver (phaseFrom (getD r 0 0 - 4)) (getD r 1 0) (getD r 2 0))
+    else if eqb (getD r 0 0) 2 then spared (drop 3 r) (Serve Read (getD r 1 0) (getD r 2 0))
+    else if eqb (getD r 0 0) 3 then spared (drop 3 r) (Serve Write (getD r 1 0) (getD r 2 0))
+    else if eqb (getD r 0 0) 4 then spared (drop 3 r) (Deliver Read (getD r 1 0) (getD r 2 0))
+    else if eqb (getD r 0 0) 5 then spared (drop 3 r) (Deliver Write (getD r 1 0) (getD r 2 0))
     else if eqb (getD r 0 0) 6 then spared (drop 2 r) (Stop (getD r 1 0))
     else if eqb (getD r 0 0) 7 then spared (drop 2 r) (Leave (getD r 1 0))
     else Malformed

@@ -1,10 +1,9 @@
 // A step as it is asked for, by its 8-byte record or its fields, and as it answers.
 ghost use mathlib.Core.Path.{_≡_};
-ghost use lib.ListN.{length, drop};
-ghost use Prim.Native.Nat.{_+_, _≤_};
-ghost use Rattle.base.specs.Records.{recordAt};
+ghost use lib.ListN.{drop};
+ghost use Prim.Native.Nat.{_≤_};
 ghost use Rattle.requests.specs.Requests.{ofPhase};
-ghost use Rattle.commands.specs.Commands.{allZero, phaseFrom, spared, commandOf, encodeOf};
+ghost use Rattle.commands.specs.Commands.{allZero, spared, commandOf, encodeOf};
 use requests::Phase;
 
 mod outcomes;
@@ -53,15 +52,6 @@ fn zeros(r: [u8; 8], from: usize) -> bool
     true
 }
 
-fn phase_from(k: u8) -> Phase
-    ensures { λ r. ⌜ r ≡ phaseFrom k ⌝ }
-{
-    if k == 0 {
-        return Phase::Read;
-    }
-    Phase::Write
-}
-
 // The command, if the bytes behind its fields are zero.
 fn spare(r: [u8; 8], from: usize, c: Command) -> Command
     requires { ⌜ from ≤ 8 ⌝ }
@@ -83,37 +73,15 @@ pub fn decode(r: [u8; 8]) -> Command
             base::be16(r[2], r[3]),
             base::be32(r[4], r[5], r[6], r[7]),
         ),
-        2..=3 => spare(r, 3, Command::Serve(phase_from(kind - 2), r[1], r[2])),
-        4..=5 => spare(r, 3, Command::Deliver(phase_from(kind - 4), r[1], r[2])),
+        2 => spare(r, 3, Command::Serve(Phase::Read, r[1], r[2])),
+        3 => spare(r, 3, Command::Serve(Phase::Write, r[1], r[2])),
+        4 => spare(r, 3, Command::Deliver(Phase::Read, r[1], r[2])),
+        5 => spare(r, 3, Command::Deliver(Phase::Write, r[1], r[2])),
         6 => spare(r, 2, Command::Stop(r[1])),
         7 => spare(r, 2, Command::Leave(r[1])),
-        _ => Command::Malformed,
+        0 => Command::Malformed,
+        8..=255 => Command::Malformed,
     }
-}
-
-// The record that starts at a place.
-pub fn record_at(s: &[u8], at: usize) -> [u8; 8]
-    requires { ⌜ at + 8 ≤ length (now s) ⌝ }
-    ensures { λ r. ⌜ r ≡ recordAt (now (s .entry)) at ⌝ }
-{
-    [
-        s[at],
-        s[at + 1],
-        s[at + 2],
-        s[at + 3],
-        s[at + 4],
-        s[at + 5],
-        s[at + 6],
-        s[at + 7],
-    ]
-}
-
-// Its command.
-pub fn command_at(s: &[u8], at: usize) -> Command
-    requires { ⌜ at + 8 ≤ length (now s) ⌝ }
-    ensures { λ c. ⌜ c ≡ commandOf (recordAt (now (s .entry)) at) ⌝ }
-{
-    decode(record_at(s, at))
 }
 
 // The kind of a request's record, by its phase.

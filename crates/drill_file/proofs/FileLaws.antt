@@ -9,9 +9,12 @@ use borrow.Author.Tests.{lt-ltb, le-ltb, eqb-true, eqb-false, eq-eqb, ne-eqb}
 use lib.Dec.{eqb}
 use lib.ListN.{length, getD, take, drop, drop-of-length-le, List·getD-eq-default}
 use lib.Seq.{drop-cons}
+use denote.Ref.{RefT}
+use Rattle.base.specs.Part.{IsPart}
 use Rattle.base.proofs.Choices.{on-true, on-false, by-test}
+use Rattle.base.proofs.PartLaws.{part-length}
 use Rattle.drill_file.specs.Claims.{Values}
-use Rattle.drill_file.specs.DrillFile.{boxesOf, stationsOf, labelLength, recordsStart, recordCount, wrongByte, wrongBytes, wrongLabel, fileRefusal, headerOf, headerRefusal, labelOf}
+use Rattle.drill_file.specs.DrillFile.{boxesOf, stationsOf, labelLength, recordsStart, recordCount, wrongByte, wrongBytes, wrongLabel, fileRefusal, headerOf, headerRefusal, headerValues, fileValues, labelOf, labelStart}
 use Rattle.drill_file.specs.declared.Header.{Header}
 use Rattle.drill_file.specs.declared.Header.the-variants.{Refused, Accepted}
 use Rattle.drill_file.proofs.TestLaws.{accepted-passed}
@@ -74,13 +77,21 @@ module _ (s : List ℕ) (k : ℕ) (e : k ≡ fileRefusal s) where
     unfolding labelOf
     label-refused = on-false _ refuses refl
 
+    pub start-refused : 0 ≡ labelStart s
+    unfolding labelStart
+    start-refused = on-false _ refuses (omega arith)
+
   module _ (z : k ≡ 0) where
     accepts : eqb (fileRefusal s) 0 ≡ true
     accepts = eq-eqb (fileRefusal s) 0 (sym e ∙ z)
 
-    pub header-accepted : Accepted (boxesOf s) (stationsOf s) (recordsStart s) (recordCount s) ≡ headerOf s
+    pub header-accepted : (n m start count : ℕ) → n ≡ boxesOf s → m ≡ stationsOf s → start ≡ recordsStart s → count ≡ recordCount s → Accepted n m start count ≡ headerOf s
     unfolding headerOf
-    header-accepted = on-true _ accepts refl
+    header-accepted n m start count en em es ec = on-true _ accepts (rw (en, em, es, ec))
+
+    pub start-accepted : 6 ≡ labelStart s
+    unfolding labelStart
+    start-accepted = on-true _ accepts (omega arith)
 
     module _ (a : ℕ) (p : a ≡ recordsStart s) where
       pub label-ends : a ≤ length s
@@ -92,12 +103,26 @@ module _ (s : List ℕ) (k : ℕ) (e : k ≡ fileRefusal s) where
           let same : a - 6 ≡ labelLength s = omega arith in
           on-true _ accepts (rw same)
 
+-- the part of a file that starts where the label does and has its bytes is the label
+pub label-lies : (s : List ℕ) (y f : RefT (List ℕ)) (a k : ℕ) → IsPart y f a k → a ≡ labelStart s → take k (drop a (f .now)) ≡ labelOf s → (y .now ≡ labelOf s) × IsPart y f (labelStart s) (length (labelOf s))
+label-lies s y f a k p e b = let same = p .bytes ∙ b in (same, rw (← e, ← same, part-length y f a k p) p)
+
 -- document 01's number of the header's answer
 pub header-number : (s : List ℕ) → headerRefusal (headerOf s) ≡ fileRefusal s
 unfolding headerOf
 header-number s =
     by-test (λ (h : Header). headerRefusal h ≡ fileRefusal s) (eqb (fileRefusal s) 0) _ _
     (λ t. sym (eqb-true (fileRefusal s) 0 t)) (λ _. refl)
+
+-- and its values
+pub header-values : (s : List ℕ) → headerValues (headerOf s) ≡ fileValues s
+unfolding headerOf fileValues
+header-values s =
+    by-test (λ (h : Header). headerValues h ≡ fileValues s) (eqb (fileRefusal s) 0) _ _ (λ t. on-true _ t refl) (λ t. on-false _ t refl)
+
+-- so the answer has them
+pub header-said : (s : List ℕ) (h : Header) → h ≡ headerOf s → (h ≡ headerOf s) × ((headerRefusal h ≡ fileRefusal s) × (headerValues h ≡ fileValues s))
+header-said s h e = (e, (ap headerRefusal e ∙ header-number s, ap headerValues e ∙ header-values s))
 
 -- what a caller has in hand where the answer is a refusal, and where it is not
 pub refused-number : (s : List ℕ) (k : ℕ) → headerOf s ≡ Refused k → (fileRefusal s ≡ k) × (k ≡ 0 → ⊥)

@@ -134,7 +134,7 @@ module _ (n m : ℕ) (l : List ℕ) (rs : List (List ℕ)) (p : FileParts n m l 
 
   pub written-accepted : headerOf file ≡ Accepted n m (6 + length l) (length rs)
   unfolding fileOf bodyOf
-  written-accepted = sym (header-accepted file 0 (sym written-passed) refl) ∙ ap (Accepted n m (6 + length l)) count
+  written-accepted = sym (header-accepted file 0 (sym written-passed) refl n m (6 + length l) (length rs) refl refl refl (sym count))
 
   pub written-label : labelOf file ≡ l
   written-label = label-is file written-passed ∙ part

@@ -5,7 +5,7 @@ use mathlib.Core.List.{List}
 use lib.ListN.{length, getD}
 use Rattle.base.specs.Bytes.{Bytes}
 use Rattle.base.specs.Claims.{Sizes}
-use Rattle.drill_file.specs.DrillFile.{statedSize, versionOf, boxesOf, stationsOf, labelLength, labelPart, recordsStart, afterLabel, recordCount, fileRefusal, headerOf, headerRefusal, labelOf, recordsOf}
+use Rattle.drill_file.specs.DrillFile.{statedSize, versionOf, boxesOf, stationsOf, labelLength, labelPart, recordsStart, afterLabel, recordCount, fileRefusal, headerOf, headerRefusal, headerValues, fileValues, labelOf, recordsOf}
 use Rattle.drill_file.specs.Layout.{fileOf, FileParts, LaidOut}
 use Rattle.drill_file.specs.declared.Header.the-variants.{Accepted}
 
@@ -50,7 +50,9 @@ pub record FileClaims : Type 0 where
   -- a file is accepted exactly where none of the refusals 1 to 5 applies
   pub passes : (s : List ℕ) → fileRefusal s ≡ 0 → Passed s
   pub accepted : (s : List ℕ) → Passed s → fileRefusal s ≡ 0
+  -- the header's answer gives this number, and these values
   pub number : (s : List ℕ) → headerRefusal (headerOf s) ≡ fileRefusal s
+  pub given : (s : List ℕ) → headerValues (headerOf s) ≡ fileValues s
   pub values : (s : List ℕ) (n m start count : ℕ) → headerOf s ≡ Accepted n m start count → Values s n m start count
   -- an accepted file is exactly its parts, in the documented layout
   pub layout : (s : List ℕ) → Bytes s → (n m start count : ℕ) → headerOf s ≡ Accepted n m start count → LaidOut s n m start count

@@ -92,14 +92,41 @@ headerOf s =
     if eqb (fileRefusal s) 0 then Accepted (boxesOf s) (stationsOf s) (recordsStart s) (recordCount s)
     else Refused (fileRefusal s)
 
--- document 01's number of each case of the answer: the refusal, 0 where the file is accepted
+-- "a definition gives this paper's number and values for each of its cases". The number: the refusal, 0 where the file is accepted
 abbrev pub headerRefusal : (h : Header) → ℕ
 headerRefusal (Refused k) = k
 headerRefusal (Accepted n m start count) = 0
 
+-- The values: "n; m", where the "records of 8 bytes" start and how many there are
+pub record HeaderValues : Type 0 where
+  pub boxes : ℕ
+  pub stations : ℕ
+  pub start : ℕ
+  pub count : ℕ
+
+-- where the file is refused each is 0
+abbrev pub noValues : HeaderValues
+noValues = record { boxes = 0; stations = 0; start = 0; count = 0 }
+
+-- those of each case of the answer
+abbrev pub headerValues : (h : Header) → HeaderValues
+headerValues (Refused k) = noValues
+headerValues (Accepted n m start count) = record { boxes = n; stations = m; start = start; count = count }
+
+-- those of a file
+unfoldable pub fileValues : (s : List ℕ) → HeaderValues
+fileValues s =
+    if eqb (fileRefusal s) 0 then record { boxes = boxesOf s; stations = stationsOf s; start = recordsStart s; count = recordCount s }
+    else noValues
+
 -- "The reader hands back the label as that part of the file"; "a file refused before its records are played gives an empty label"
 unfoldable pub labelOf : (s : List ℕ) → List ℕ
 labelOf s = if eqb (fileRefusal s) 0 then labelPart s else []
+
+-- "with a contract on which part it is": at which byte of the file it starts, behind the label length. The empty label of a refused file
+-- lies at the file's start
+unfoldable pub labelStart : (s : List ℕ) → ℕ
+labelStart s = if eqb (fileRefusal s) 0 then 6 else 0
 
 -- "then records of 8 bytes": those of an accepted file
 abbrev pub recordsOf : (s : List ℕ) → List (List ℕ)

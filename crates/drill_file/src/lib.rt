@@ -1,7 +1,8 @@
 // The drill file: its header, its label and its records (document 01, "The drill file" and the refusals 1 to 5).
 ghost use mathlib.Core.Path.{_≡_};
-ghost use lib.ListN.{getD};
-ghost use Rattle.drill_file.specs.DrillFile.{recordsStart, afterLabel, wrongSize, wrongVersion, wrongFloor, wrongByte, wrongBytes, wrongLabel, wrongRecords, fileRefusal, headerOf, headerRefusal, labelOf};
+ghost use lib.ListN.{length, getD};
+ghost use Rattle.base.specs.Part.{IsPart};
+ghost use Rattle.drill_file.specs.DrillFile.{recordsStart, afterLabel, wrongSize, wrongVersion, wrongFloor, wrongByte, wrongBytes, wrongLabel, wrongRecords, fileRefusal, headerOf, headerRefusal, headerValues, fileValues, labelOf, labelStart};
 
 // What the header says: the refusal, or n, m, where the records start and how many there are.
 pub enum Header {
@@ -154,6 +155,7 @@ fn file_refusal(file: &[u8]) -> u8
 pub fn read_header(file: &[u8]) -> Header
     ensures answer { λ y. ⌜ y ≡ headerOf (now (file .entry)) ⌝ }
     ensures number { λ y. ⌜ headerRefusal y ≡ fileRefusal (now (file .entry)) ⌝ }
+    ensures values { λ y. ⌜ headerValues y ≡ fileValues (now (file .entry)) ⌝ }
 {
     let refusal = file_refusal(file);
     if refusal != 0 {
@@ -167,9 +169,10 @@ pub fn read_header(file: &[u8]) -> Header
     }
 }
 
-// The label, as that part of the file; of a refused file, an empty part.
+// The label, as that part of the file; of a refused file, the empty part at its start.
 pub fn label(file: &[u8]) -> &[u8]
-    ensures { λ y. ⌜ now y ≡ labelOf (now (file .entry)) ⌝ }
+    ensures bytes { λ y. ⌜ now y ≡ labelOf (now (file .entry)) ⌝ }
+    ensures place { λ y. ⌜ IsPart y (file .entry) (labelStart (now (file .entry))) (length (labelOf (now (file .entry)))) ⌝ }
 {
     if file_refusal(file) != 0 {
         return &file[0..0];

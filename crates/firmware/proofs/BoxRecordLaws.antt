@@ -1,12 +1,16 @@
 -- The record of 12 bytes: encoding and decoding are inverse to each other, and any 12 bytes are a register's. The reply of 8.
 use mathlib.Core.Path.{_≡_, refl, sym, _∙_, ap}
 use mathlib.Core.List.{List, _++_}
-use Prim.Native.Nat.{ℕ}
+use Prim.Native.Nat.{ℕ, _+_, _≤_}
 use native.Mathlib.Omega.{arith}
+use lib.Dec.{leb}
 use lib.ListN.{length, take, drop, drop-of-length-le}
 use lib.Seq.{drop-drop, take-add, take-all}
+use borrow.Author.Tests.{le-leb}
+use Rattle.base.specs.Choice.{if_then_else_}
+use Rattle.base.proofs.Choices.{chosen}
 use Rattle.base.specs.Bytes.{Bytes, bytes32, wordAt, withWord}
-use Rattle.base.proofs.ByteLaws.{word32-of-bytes, word-at-fits, word-at-bytes}
+use Rattle.base.proofs.ByteLaws.{word32-of-bytes, with-word-length, word-at-fits, word-at-bytes}
 use Rattle.register.specs.declared.Register.{Register}
 use Rattle.firmware.specs.Firmware.{encode, decode, replyOf}
 use Rattle.firmware.specs.Claims.{Fits32}
@@ -14,24 +18,47 @@ use Rattle.firmware.specs.Claims.{Fits32}
 same-register : {x : Register} {a b c : ℕ} → a ≡ x .read → b ≡ x .write → c ≡ x .value → record { read = a; write = b; value = c } ≡ x
 same-register e f g = rw (e, f, g)
 
+-- a word that the bytes have room for is read, and stored
+word-read : (s : List ℕ) (at : ℕ) {y : ℕ} → at + 4 ≤ length s → y ≡ (if leb (at + 4) (length s) then wordAt s at else 0) → y ≡ wordAt s at
+word-read s at h e = chosen _ (le-leb _ _ h) e
+
+word-stored : (s s′ : List ℕ) (at x : ℕ) → at + 4 ≤ length s → s′ ≡ (if leb (at + 4) (length s) then withWord s at x else s)
+    → (s′ ≡ withWord s at x) × (length s′ ≡ length s)
+word-stored s s′ at x h e = let g = chosen _ (le-leb _ _ h) e in (g, ap length g ∙ with-word-length s at x h)
+
 -- three words that were read are the decoded register
-pub decode-words : (s : List ℕ) {a b c : ℕ} → a ≡ wordAt s 0 → b ≡ wordAt s 4 → c ≡ wordAt s 8 → record { read = a; write = b; value = c } ≡ decode s
+pub decode-words : (s : List ℕ) {a b c : ℕ} → length s ≡ 12
+    → a ≡ (if leb 4 (length s) then wordAt s 0 else 0)
+    → b ≡ (if leb 8 (length s) then wordAt s 4 else 0)
+    → c ≡ (if leb 12 (length s) then wordAt s 8 else 0)
+    → record { read = a; write = b; value = c } ≡ decode s
 unfolding decode
-decode-words s e f g = same-register e f g
+decode-words s h e f g = same-register (word-read s 0 (omega arith) e) (word-read s 4 (omega arith) f) (word-read s 8 (omega arith) g)
 
 -- three words that were stored one behind the other are all that the record then holds, and two all that the reply does
-pub record-stored : (s s₁ s₂ s₃ : List ℕ) (x : Register) → length s ≡ 12 → s₁ ≡ withWord s 0 (x .read) → s₂ ≡ withWord s₁ 4 (x .write) → s₃ ≡ withWord s₂ 8 (x .value)
+pub record-stored : (s s₁ s₂ s₃ : List ℕ) (x : Register) → length s ≡ 12
+    → s₁ ≡ (if leb 4 (length s) then withWord s 0 (x .read) else s)
+    → s₂ ≡ (if leb 8 (length s₁) then withWord s₁ 4 (x .write) else s₁)
+    → s₃ ≡ (if leb 12 (length s₂) then withWord s₂ 8 (x .value) else s₂)
     → s₃ ≡ encode x
 unfolding encode withWord
-record-stored s s₁ s₂ s₃ x h e₁ e₂ e₃ =
-    e₃ ∙ ap (λ (t : List ℕ). withWord t 8 (x .value)) (e₂ ∙ ap (λ (t : List ℕ). withWord t 4 (x .write)) e₁) ∙
+record-stored s s₁ s₂ s₃ x h f₁ f₂ f₃ =
+    let e₁ = word-stored s s₁ 0 (x .read) (omega arith) f₁ in
+    let e₂ = word-stored s₁ s₂ 4 (x .write) (omega arith) f₂ in
+    let e₃ = word-stored s₂ s₃ 8 (x .value) (omega arith) f₃ in
+    e₃ .0 ∙ ap (λ (t : List ℕ). withWord t 8 (x .value)) (e₂ .0 ∙ ap (λ (t : List ℕ). withWord t 4 (x .write)) (e₁ .0)) ∙
     ap (λ (t : List ℕ). bytes32 (x .read) ++ (bytes32 (x .write) ++ (bytes32 (x .value) ++ t)))
     (ap (drop 4) (drop-drop 4 4 s) ∙ drop-drop 4 8 s ∙ drop-of-length-le s {i = 12} (omega (arith, h)))
 
-pub reply-stored : (s s₁ s₂ : List ℕ) (rank value : ℕ) → length s ≡ 8 → s₁ ≡ withWord s 0 rank → s₂ ≡ withWord s₁ 4 value → s₂ ≡ replyOf rank value
+pub reply-stored : (s s₁ s₂ : List ℕ) (rank value : ℕ) → length s ≡ 8
+    → s₁ ≡ (if leb 4 (length s) then withWord s 0 rank else s)
+    → s₂ ≡ (if leb 8 (length s₁) then withWord s₁ 4 value else s₁)
+    → s₂ ≡ replyOf rank value
 unfolding replyOf withWord
-reply-stored s s₁ s₂ rank value h e₁ e₂ =
-    e₂ ∙ ap (λ (t : List ℕ). withWord t 4 value) e₁ ∙
+reply-stored s s₁ s₂ rank value h f₁ f₂ =
+    let e₁ = word-stored s s₁ 0 rank (omega arith) f₁ in
+    let e₂ = word-stored s₁ s₂ 4 value (omega arith) f₂ in
+    e₂ .0 ∙ ap (λ (t : List ℕ). withWord t 4 value) (e₁ .0) ∙
     ap (λ (t : List ℕ). bytes32 rank ++ (bytes32 value ++ t)) (drop-drop 4 4 s ∙ drop-of-length-le s {i = 8} (omega (arith, h)))
 
 -- what was encoded is decoded

@@ -1,9 +1,14 @@
 -- The claims on steps and runs, proved.
+use native.Mathlib.Omega.{arith}
+use mathlib.Core.Path.{refl, sym, subst}
+use Rattle.base.specs.Records.{recordsIn}
+use Rattle.floor.specs.Runs.{playedOn}
+use Rattle.floor.proofs.RunCalls.{run-6, run-5, run-0, played-refused, played-whole}
 use Rattle.commands.specs.Commands.{commandOf}
 use Rattle.floor.specs.Step.{stepOf}
-use Rattle.floor.specs.Claims.{StepClaims, RunClaims}
+use Rattle.floor.specs.Claims.{PlayedOver, StepClaims, RunClaims}
 use Rattle.floor.proofs.Keeps.{step-refused-same, new-sound, new-lengths, step-keeps, step-lengths, step-sizes}
-use Rattle.floor.proofs.Numbered.{refused-number, step-number}
+use Rattle.floor.proofs.Numbered.{refused-number, apply-number, apply-value}
 use Rattle.floor.proofs.Outcomes.{step-means}
 use Rattle.floor.proofs.Moves.{apply-station, apply-box, apply-row}
 use Rattle.floor.proofs.BoxLaws.{stopped-stays, box-grown}
@@ -16,7 +21,8 @@ unfolding stepOf
 step-claims = record {
   refused-same = step-refused-same;
   refused-number = λ f r. refused-number f (commandOf r);
-  number = step-number;
+  number = λ f r. apply-number f (commandOf r);
+  value = λ f r. apply-value f (commandOf r);
   new-sound = new-sound;
   new-lengths = new-lengths;
   sound = step-keeps;
@@ -37,4 +43,10 @@ step-claims = record {
 }
 
 pub run-claims : RunClaims
-run-claims = record { ran = run-ran; played = run-played }
+run-claims = record {
+  ran = run-ran;
+  played = run-played;
+  played-6 = λ f l z. sym (played-refused f l 6 (run-6 f l z) (λ e. omega (arith, e)));
+  played-5 = λ f l z h. sym (played-refused f l 5 (run-5 f l z h) (λ e. omega (arith, e)));
+  played-whole = λ f l z h. subst (PlayedOver f (recordsIn l)) (played-whole f l 0 (run-0 f l z h) refl (playedOn f (recordsIn l)) refl) (run-played f (recordsIn l));
+}

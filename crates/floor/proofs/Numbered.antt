@@ -1,51 +1,99 @@
--- The number of a step's outcome is that of its refusal: 0, or 6 to 14.
+-- The number of a step's outcome is that of its refusal, 0 or 6 to 14, and its value that of its effect.
 use Prim.Native.Nat.{ℕ, _≤_}
 use native.Mathlib.Omega.{arith}
 use native.Mathlib.Decide.{ℕ-discrete}
 use mathlib.Core.Path.{_≡_, refl, sym, ap, _∙_}
 use mathlib.Core.Bool.{Bool, true, false}
-use mathlib.Core.List.{List}
-use Rattle.base.proofs.Choices.{on-true, on-false}
+use borrow.Author.Tests.{eq-eqb, ne-eqb}
+use Rattle.base.specs.Choice.{if_then_else_}
+use Rattle.base.proofs.Choices.{on-true, on-false, choice-ap}
 use Rattle.floor.specs.Sound.{soundOf}
-use Rattle.commands.specs.Commands.{commandOf}
+use Rattle.requests.specs.Requests.{ofPhase, atQuorum}
+use Rattle.requests.specs.declared.Phase.{Phase}
+use Rattle.requests.specs.declared.Phase.the-variants.{Read, Write}
+use Rattle.attempts.specs.Stations.{isIn}
+use Rattle.attempts.specs.Rows.{revisionOf, requestsHeard}
+use Rattle.floor.specs.Floors.{rowAt, ownerAt}
 use Rattle.floor.specs.Refusals.{refusalOn}
-use Rattle.floor.specs.Effects.{effectOn}
-use Rattle.commands.specs.Outcomes.{numberOf, isRefused}
-use Rattle.floor.specs.Step.{applyOf, stepOf, refusalOf}
+use Rattle.floor.specs.Effects.{heardRow, readEndedOn, writeEndedOn, deliveredOn, effectOn, writeEndedValue, deliveredValue, valueOn}
+use Rattle.commands.specs.Outcomes.{numberOf, valueOf, isRefused}
+use Rattle.floor.specs.Step.{applyOf, refusalOf, valueSaid}
 use Rattle.floor.specs.declared.Floor.{Floor}
 use Rattle.floor.specs.declared.Stepped.{Stepped}
 use Rattle.commands.specs.declared.Command.{Command}
+use Rattle.commands.specs.declared.Command.the-variants.{Begin, Serve, Deliver, Stop, Leave, Malformed}
 use Rattle.floor.proofs.SoundLaws.{sound-means}
 use Rattle.floor.proofs.StepCases.{apply-refusal}
-use Rattle.floor.proofs.StepLaws.{step-apply, apply-unsound, apply-refused, apply-accepted}
+use Rattle.floor.proofs.StepLaws.{apply-unsound, apply-refused, apply-accepted}
 use Rattle.floor.proofs.Keeps.{effect-said}
 use Rattle.commands.proofs.OutcomeLaws.{accepted-number}
 
-module _ (f : Floor) (r : List ℕ) where
+-- the value of what an accepted step says
+abbrev worth : Stepped → ℕ
+worth s = valueOf (s .outcome)
+
+module _ (f : Floor) (a b : ℕ) where
+  ended-value : (p : Phase) → worth (ofPhase p (readEndedOn f a (heardRow f p a b)) (writeEndedOn f a (heardRow f p a b)))
+      ≡ ofPhase p (revisionOf (heardRow f p a b) (f .n)) (writeEndedValue f a (heardRow f p a b))
+  unfolding writeEndedOn
+  ended-value Read = refl
+  ended-value Write = choice-ap worth _ _ _
+
+  deliver-value : (p : Phase) → worth (deliveredOn f p a b) ≡ deliveredValue f p a b
+  unfolding deliveredOn deliveredValue
+  deliver-value p =
+      choice-ap worth _ _ _
+      ∙ ap (λ (v : ℕ). if isIn p (ownerAt f a .state) a then v else a)
+      (choice-ap worth _ _ _ ∙ ap (λ (v : ℕ). if atQuorum (requestsHeard p (rowAt f a) b) (f .n) then v else a) (ended-value p))
+
+effect-value : (f : Floor) (c : Command) → worth (effectOn f c) ≡ valueOn f c
+effect-value f (Begin s round v) = refl
+effect-value f (Serve p a b) = refl
+effect-value f (Deliver p a b) = deliver-value f a b p
+effect-value f (Stop b) = refl
+effect-value f (Leave s) = refl
+effect-value f Malformed = refl
+
+module _ (f : Floor) (c : Command) where
   abbrev saying : Stepped → ℕ
   saying s = numberOf (s .outcome)
 
-  refusal-sound : soundOf f ≡ true → refusalOf f r ≡ refusalOn f (commandOf r)
+  refusal-sound : soundOf f ≡ true → refusalOf f c ≡ refusalOn f c
   unfolding refusalOf
   refusal-sound e = sym (on-true _ e refl)
 
-  refusal-unsound : soundOf f ≡ false → refusalOf f r ≡ 6
+  refusal-unsound : soundOf f ≡ false → refusalOf f c ≡ 6
   unfolding refusalOf
   refusal-unsound e = sym (on-false _ e refl)
 
-  by-soundness : (t : Bool) → soundOf f ≡ t → numberOf (applyOf f (commandOf r) .outcome) ≡ refusalOf f r
-  by-soundness true e =
-      elim (ℕ-discrete (refusalOn f (commandOf r)) 0) [
-        | yes z ↦
-            ap saying (apply-accepted f (commandOf r) (sound-means f e) z)
-            ∙ accepted-number (effectOn f (commandOf r) .outcome) (effect-said f (commandOf r) z)
-            ∙ sym (refusal-sound e ∙ z)
-        | no z ↦ ap saying (apply-refused f (commandOf r) (sound-means f e) z) ∙ sym (refusal-sound e)
-      ]
-  by-soundness false e = ap saying (apply-unsound f (commandOf r) e) ∙ sym (refusal-unsound e)
+  accepted-value : refusalOf f c ≡ 0 → valueOn f c ≡ valueSaid f c
+  unfolding valueSaid
+  accepted-value e = on-true _ (eq-eqb _ _ e) refl
 
-  pub step-number : numberOf (stepOf f r .outcome) ≡ refusalOf f r
-  step-number = ap saying (step-apply f r) ∙ by-soundness (soundOf f) refl
+  refused-value : ¬ (refusalOf f c ≡ 0) → 0 ≡ valueSaid f c
+  unfolding valueSaid
+  refused-value e = on-false _ (ne-eqb _ _ e) refl
+
+  -- both, on a floor that is sound or not
+  by-soundness : (t : Bool) → soundOf f ≡ t → (saying (applyOf f c) ≡ refusalOf f c) × (worth (applyOf f c) ≡ valueSaid f c)
+  by-soundness true e =
+      elim (ℕ-discrete (refusalOn f c) 0) [
+        | yes z ↦ (
+            let q = apply-accepted f c (sound-means f e) z in
+            (ap saying q ∙ accepted-number (effectOn f c .outcome) (effect-said f c z) ∙ sym (refusal-sound e ∙ z), ap worth q ∙ effect-value f c ∙ accepted-value (refusal-sound e ∙ z)))
+        | no z ↦ (
+            let q = apply-refused f c (sound-means f e) z in
+            (ap saying q ∙ sym (refusal-sound e), ap worth q ∙ refused-value (λ u. z (sym (refusal-sound e) ∙ u))))
+      ]
+  by-soundness false e =
+      let q = apply-unsound f c e in
+      (ap saying q ∙ sym (refusal-unsound e), ap worth q ∙ refused-value (λ u. omega (arith, u, refusal-unsound e)))
+
+  pub apply-number : numberOf (applyOf f c .outcome) ≡ refusalOf f c
+  apply-number = by-soundness (soundOf f) refl .0
+
+  pub apply-value : valueOf (applyOf f c .outcome) ≡ valueSaid f c
+  apply-value = by-soundness (soundOf f) refl .1
 
 -- a refused step has a number from 6 to 14
 pub refused-number : (f : Floor) (c : Command) → isRefused (applyOf f c .outcome) ≡ true → (6 ≤ numberOf (applyOf f c .outcome)) × (numberOf (applyOf f c .outcome) ≤ 14)

@@ -1,10 +1,11 @@
 -- What is claimed of steps and of runs. The proofs are `step-claims` and `run-claims` in proofs/Claims.
-use Prim.Native.Nat.{ℕ, suc, _+_, _<_, _≤_}
+use Prim.Native.Nat.{ℕ, suc, _+_, _%_, _<_, _≤_}
 use mathlib.Core.Path.{_≡_}
 use mathlib.Core.Logic.{_⊎_}
 use mathlib.Core.Bool.{true, false}
 use mathlib.Core.List.{List, _∷_}
 use lib.ListN.{length}
+use Rattle.base.specs.Records.{recordsIn}
 use Rattle.base.specs.Quorum.{indicator}
 use Rattle.base.specs.Mask.{countBelow}
 use Rattle.register.specs.Register.{withRegister}
@@ -14,7 +15,7 @@ use Rattle.requests.specs.Requests.{standingOf, isWaiting, isOnTheWay, atQuorum
 use Rattle.requests.specs.declared.Phase.{Phase}
 use Rattle.requests.specs.declared.Phase.the-variants.{Read, Write}
 use Rattle.commands.specs.Commands.{commandOf}
-use Rattle.commands.specs.Outcomes.{numberOf, isRefused, isBegun}
+use Rattle.commands.specs.Outcomes.{numberOf, valueOf, isRefused, isBegun}
 use Rattle.commands.specs.declared.Command.{Command}
 use Rattle.commands.specs.declared.Command.the-variants.{Begin, Serve, Deliver, Stop, Leave}
 use Rattle.commands.specs.declared.Outcome.{Outcome}
@@ -29,8 +30,8 @@ use Rattle.floor.specs.Floors.{boxAt, stationAt, rowAt, ownerAt, newFloo
 use Rattle.floor.specs.Sound.{soundOf}
 use Rattle.floor.specs.Refusals.{refusalOn}
 use Rattle.floor.specs.Effects.{heardRow, beginner, decider}
-use Rattle.floor.specs.Step.{stepOf, refusalOf}
-use Rattle.floor.specs.Runs.{floorAt, saidAt, stopsAt, runOf, playedOn}
+use Rattle.floor.specs.Step.{stepOf, refusalOf, valueSaid}
+use Rattle.floor.specs.Runs.{floorAt, saidAt, stopsAt, runOf, playedOn, playedIn}
 use Rattle.floor.specs.declared.Floor.{Floor}
 use Rattle.floor.specs.declared.Until.{Until}
 use Rattle.floor.specs.declared.Ran.{Ran}
@@ -251,7 +252,8 @@ pub record StepClaims : Type 0 where
   pub refused-same : (f : Floor) (r : List ℕ) → isRefused (stepOf f r .outcome) ≡ true → stepOf f r .floor ≡ f
   pub refused-number : (f : Floor) (r : List ℕ) → isRefused (stepOf f r .outcome) ≡ true
       → (6 ≤ numberOf (stepOf f r .outcome)) × (numberOf (stepOf f r .outcome) ≤ 14)
-  pub number : (f : Floor) (r : List ℕ) → numberOf (stepOf f r .outcome) ≡ refusalOf f r
+  pub number : (f : Floor) (r : List ℕ) → numberOf (stepOf f r .outcome) ≡ refusalOf f (commandOf r)
+  pub value : (f : Floor) (r : List ℕ) → valueOf (stepOf f r .outcome) ≡ valueSaid f (commandOf r)
   -- soundness, the sizes and the lengths of the arrays are kept; a new floor has them
   pub new-sound : (n m : ℕ) → Sound (newFloorOf n m .floor)
   pub new-lengths : (n m : ℕ) → Lengths (newFloorOf n m .floor)
@@ -309,3 +311,8 @@ pub record PlayedOver (f : Floor) (l : List (List ℕ)) (x : Played) : Type 0 wh
 pub record RunClaims : Type 0 where
   pub ran : (until : Until) (f : Floor) (r : List ℕ) (rs : List (List ℕ)) → RunOver until f (r ∷ rs) (runOf until f r rs .accepted) (runOf until f r rs)
   pub played : (f : Floor) (rs : List (List ℕ)) → PlayedOver f rs (playedOn f rs)
+  -- of records handed in as bytes: refused for the floor, however few bytes there are, then for bytes that are not whole records, and else
+  -- only where a step is refused, so that no records are no refusal
+  pub played-6 : (f : Floor) (bytes : List ℕ) → soundOf f ≡ false → playedIn f bytes ≡ record { floor = f; accepted = 0; refusal = 6 }
+  pub played-5 : (f : Floor) (bytes : List ℕ) → soundOf f ≡ true → ¬ (length bytes % 8 ≡ 0) → playedIn f bytes ≡ record { floor = f; accepted = 0; refusal = 5 }
+  pub played-whole : (f : Floor) (bytes : List ℕ) → soundOf f ≡ true → length bytes % 8 ≡ 0 → PlayedOver f (recordsIn bytes) (playedIn f bytes)

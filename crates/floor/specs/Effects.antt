@@ -94,3 +94,24 @@ effectOn f (Deliver p a b) = deliveredOn f p a b
 effectOn f (Stop b) = stepped (afterStop f b) (said.Stopped b)
 effectOn f (Leave s) = stepped (afterLeave f s) (said.Gone s)
 effectOn f Malformed = stepped f (said.Refused 7)
+
+-- Document 01's value of what an accepted step says: "begun, served, received or aborted with the attempt; write issued or decided with
+-- the revision; stopped with the box; gone with the station"
+abbrev pub writeEndedValue : (f : Floor) (a : ℕ) (w : Row) → ℕ
+writeEndedValue f a w = if allYes (w .write) (f .n) then w .written else a
+
+unfoldable pub deliveredValue : (f : Floor) (phase : Phase) (a b : ℕ) → ℕ
+deliveredValue f phase a b =
+    if isIn phase (ownerAt f a .state) a then
+    (if atQuorum (requestsHeard phase (rowAt f a) b) (f .n) then
+    ofPhase phase (revisionOf (heardRow f phase a b) (f .n)) (writeEndedValue f a (heardRow f phase a b))
+    else a)
+    else a
+
+abbrev pub valueOn : (f : Floor) (c : Command) → ℕ
+valueOn f (Begin s round v) = f .used
+valueOn f (Serve p a b) = a
+valueOn f (Deliver p a b) = deliveredValue f p a b
+valueOn f (Stop b) = b
+valueOn f (Leave s) = s
+valueOn f Malformed = 0

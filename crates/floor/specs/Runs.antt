@@ -1,13 +1,17 @@
 -- The steps of a list of records, "each step given the floor that the last one left".
-use Prim.Native.Nat.{ℕ, zero, suc, _+_}
+use Prim.Native.Nat.{ℕ, zero, suc, _+_, _%_}
 use mathlib.Core.List.{List, [], _∷_}
 use mathlib.Core.Bool.{Bool, true}
+use lib.Dec.{eqb}
 use lib.ListN.{length, getD}
 use Rattle.base.specs.Choice.{if_then_else_}
+use Rattle.base.specs.Records.{recordsIn}
 use Rattle.commands.specs.Commands.{commandOf}
 use Rattle.commands.specs.Outcomes.{numberOf, isRefused, isEnd}
 use Rattle.commands.specs.declared.Command.{Command}
 use Rattle.commands.specs.declared.Outcome.{Outcome}
+use Rattle.commands.specs.declared.Outcome.the-variants.{Refused}
+use Rattle.floor.specs.Sound.{soundOf}
 use Rattle.floor.specs.Step.{applyOf, stepOf}
 use Rattle.floor.specs.declared.Floor.{Floor}
 use Rattle.floor.specs.declared.Stepped.{Stepped}
@@ -60,3 +64,25 @@ playedOn f (r ∷ rs) =
       accepted = runOf Refusal f r rs .accepted;
       refusal = numberOf (runOf Refusal f r rs .outcome);
     }
+
+-- Records handed in as a list of bytes. What turns it back before its first step: 6, "A handed-in floor has ..", and then 5, "not whole
+-- records"; 0 where neither applies.
+unfoldable pub refusalBy : (sound : Bool) (size : ℕ) → ℕ
+refusalBy sound size =
+    if sound then (if eqb (size % 8) 0 then 0 else 5)
+    else 6
+
+unfoldable pub runRefusal : (f : Floor) (bytes : List ℕ) → ℕ
+runRefusal f bytes = refusalBy (soundOf f) (length bytes)
+
+-- its records played
+unfoldable pub playedIn : (f : Floor) (bytes : List ℕ) → Played
+playedIn f bytes =
+    if eqb (runRefusal f bytes) 0 then playedOn f (recordsIn bytes)
+    else record { floor = f; accepted = 0; refusal = runRefusal f bytes }
+
+-- a record and those behind it, up to the end of an attempt
+unfoldable pub drivenIn : (f : Floor) (r bytes : List ℕ) → Ran
+drivenIn f r bytes =
+    if eqb (runRefusal f bytes) 0 then runOf End f r (recordsIn bytes)
+    else record { floor = f; accepted = 0; outcome = Refused (runRefusal f bytes) }

@@ -8,7 +8,7 @@ use Rattle.commands.specs.declared.Command.{Command}
 use Rattle.commands.specs.declared.Outcome.the-variants.{Refused}
 use Rattle.floor.specs.Sound.{soundOf}
 use Rattle.floor.specs.Refusals.{refusalOn}
-use Rattle.floor.specs.Effects.{effectOn}
+use Rattle.floor.specs.Effects.{effectOn, valueOn}
 use Rattle.floor.specs.declared.Floor.{Floor}
 use Rattle.floor.specs.declared.Stepped.{Stepped}
 
@@ -30,6 +30,11 @@ applyOf f c = if soundOf f then playOf f c else refused f 6
 unfoldable pub stepOf : (f : Floor) (r : List ℕ) → Stepped
 stepOf f r = applyOf f (commandOf r)
 
--- the number of the refusal of a step, 0 where it is accepted: what `numberOf` gives of its outcome
-unfoldable pub refusalOf : (f : Floor) (r : List ℕ) → ℕ
-refusalOf f r = if soundOf f then refusalOn f (commandOf r) else 6
+-- Document 01's number and value of what a step says. The number of its refusal, 0 where it is accepted: what `numberOf` gives of its
+-- outcome
+unfoldable pub refusalOf : (f : Floor) (c : Command) → ℕ
+refusalOf f c = if soundOf f then refusalOn f c else 6
+
+-- what `valueOf` gives of it: 0 where it is refused
+unfoldable pub valueSaid : (f : Floor) (c : Command) → ℕ
+valueSaid f c = if eqb (refusalOf f c) 0 then valueOn f c else 0

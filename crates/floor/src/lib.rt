@@ -6,14 +6,15 @@ ghost use mathlib.Core.Path.{_≡_};
 ghost use mathlib.Core.Bool.{true, false};
 ghost use lib.ListN.{length};
 ghost use lib.Dec.{leb};
-ghost use Prim.Native.Nat.{_/_, _≤_};
+ghost use Prim.Native.Nat.{_+_, _/_, _≤_};
 ghost use Rattle.base.specs.Choice.{if_then_else_};
-ghost use Rattle.base.specs.Records.{recordsFrom};
-ghost use Rattle.commands.specs.Outcomes.{numberOf};
+ghost use Rattle.base.specs.Records.{recordAt, recordsIn};
+ghost use Rattle.commands.specs.Commands.{commandOf};
+ghost use Rattle.commands.specs.Outcomes.{numberOf, valueOf};
 ghost use Rattle.floor.specs.Floors.{emptyFloor, newFloorOf};
 ghost use Rattle.floor.specs.Sound.{stationsBelow, soundOf};
-ghost use Rattle.floor.specs.Step.{applyOf, stepOf, refusalOf};
-ghost use Rattle.floor.specs.Runs.{stopsAt, runFrom, runOf, playedOn};
+ghost use Rattle.floor.specs.Step.{applyOf, stepOf, refusalOf, valueSaid};
+ghost use Rattle.floor.specs.Runs.{stopsAt, runFrom, refusalBy, playedIn, drivenIn};
 ghost use Rattle.floor.specs.Claims.{Sound};
 use attempts::Row;
 use attempts::State;
@@ -172,10 +173,27 @@ fn over(left: usize, until: Until, o: Outcome) -> bool
     stops(until, o)
 }
 
+// The record that starts at a place.
+fn record_at(s: &[u8], at: usize) -> [u8; 8]
+    requires { ⌜ at + 8 ≤ length (now s) ⌝ }
+    ensures { λ r. ⌜ r ≡ recordAt (now (s .entry)) at ⌝ }
+{
+    [
+        s[at],
+        s[at + 1],
+        s[at + 2],
+        s[at + 3],
+        s[at + 4],
+        s[at + 5],
+        s[at + 6],
+        s[at + 7],
+    ]
+}
+
 // A command on a sound floor, and then the steps of the records behind it.
 fn run_sound(mut f: Floor, first: Command, records: &[u8], until: Until) -> Ran
     requires { ⌜ Sound f ⌝ }
-    ensures { λ r. ⌜ r ≡ runFrom until 0 f first (recordsFrom (length (now (records .entry)) / 8) (now (records .entry)) 0) ⌝ }
+    ensures { λ r. ⌜ r ≡ runFrom until 0 f first (recordsIn (now (records .entry))) ⌝ }
 {
     let count = records.len() / 8;
     let mut c = first;
@@ -212,31 +230,38 @@ fn run_sound(mut f: Floor, first: Command, records: &[u8], until: Until) -> Ran
                 outcome: o,
             };
         }
-        c = commands::command_at(records, 8 * k);
+        c = commands::decode(record_at(records, 8 * k));
         k += 1;
     }
 }
 
-// The step of an 8-byte record and of those behind it, up to the last, or to one behind which the run ends. Bytes behind the last
-// whole record are not looked at.
-fn run_from(f: Floor, first: [u8; 8], records: &[u8], until: Until) -> Ran
-    ensures { λ r. ⌜ r ≡ runOf until f first (recordsFrom (length (now (records .entry)) / 8) (now (records .entry)) 0) ⌝ }
+// What turns a run back before its first step: 6, then 5, 0 where neither applies. Whether the floor is sound is handed in, so that no
+// floor is moved for it.
+fn run_refusal(right: bool, size: usize) -> u8
+    ensures { λ r. ⌜ r ≡ refusalBy right size ⌝ }
 {
-    if !sound(f) {
-        return Ran {
-            floor: f,
-            accepted: 0,
-            outcome: Outcome::Refused(6),
-        };
+    if !right {
+        return 6;
     }
-    run_sound(f, commands::decode(first), records, until)
+    if size % 8 != 0 {
+        return 5;
+    }
+    0
 }
 
-// Takes the steps of a list of 8-byte records one after the other, up to the first that is refused. Bytes behind the last whole
-// record are not looked at.
+// Takes the steps of a list of 8-byte records one after the other, up to the first that is refused.
 pub fn run(f: Floor, records: &[u8]) -> Played
-    ensures { λ r. ⌜ r ≡ playedOn f (recordsFrom (length (now (records .entry)) / 8) (now (records .entry)) 0) ⌝ }
+    ensures { λ r. ⌜ r ≡ playedIn f (now (records .entry)) ⌝ }
 {
+    let right = sound(f);
+    let refusal = run_refusal(right, records.len());
+    if refusal != 0 {
+        return Played {
+            floor: f,
+            accepted: 0,
+            refusal,
+        };
+    }
     if records.len() < 8 {
         return Played {
             floor: f,
@@ -244,12 +269,8 @@ pub fn run(f: Floor, records: &[u8]) -> Played
             refusal: 0,
         };
     }
-    let ran = run_from(
-        f,
-        commands::record_at(records, 0),
-        &records[8..],
-        Until::Refusal,
-    );
+    let first = commands::decode(record_at(records, 0));
+    let ran = run_sound(f, first, &records[8..], Until::Refusal);
     let floor = ran.floor;
     let outcome = ran.outcome;
     Played {
@@ -261,17 +282,29 @@ pub fn run(f: Floor, records: &[u8]) -> Played
 
 // The same from a record on, up to the first step that is refused or that ends an attempt, with what the last step said.
 pub fn drive(f: Floor, first: [u8; 8], records: &[u8]) -> Ran
-    ensures { λ r. ⌜ r ≡ runOf Until.End f first (recordsFrom (length (now (records .entry)) / 8) (now (records .entry)) 0) ⌝ }
+    ensures ran { λ r. ⌜ r ≡ drivenIn f first (now (records .entry)) ⌝ }
+    ensures number { λ r. ⌜ numberOf (r .outcome) ≡ numberOf (drivenIn f first (now (records .entry)) .outcome) ⌝ }
+    ensures value { λ r. ⌜ valueOf (r .outcome) ≡ valueOf (drivenIn f first (now (records .entry)) .outcome) ⌝ }
 {
-    run_from(f, first, records, Until::End)
+    let right = sound(f);
+    let refusal = run_refusal(right, records.len());
+    if refusal != 0 {
+        return Ran {
+            floor: f,
+            accepted: 0,
+            outcome: Outcome::Refused(refusal),
+        };
+    }
+    run_sound(f, commands::decode(first), records, Until::End)
 }
 
 // A single step, handed in as its 8-byte record: a run of one.
 pub fn step(f: Floor, bytes: [u8; 8]) -> Stepped
     ensures stepped { λ r. ⌜ r ≡ stepOf f bytes ⌝ }
-    ensures number { λ r. ⌜ numberOf (r .outcome) ≡ refusalOf f bytes ⌝ }
+    ensures number { λ r. ⌜ numberOf (r .outcome) ≡ refusalOf f (commandOf bytes) ⌝ }
+    ensures value { λ r. ⌜ valueOf (r .outcome) ≡ valueSaid f (commandOf bytes) ⌝ }
 {
-    let ran = run_from(f, bytes, &[], Until::Refusal);
+    let ran = drive(f, bytes, &[]);
     let floor = ran.floor;
     let outcome = ran.outcome;
     Stepped { floor, outcome }
@@ -279,7 +312,9 @@ pub fn step(f: Floor, bytes: [u8; 8]) -> Stepped
 
 // The same step on a decoded command.
 pub fn apply(f: Floor, c: Command) -> Stepped
-    ensures { λ r. ⌜ r ≡ applyOf f c ⌝ }
+    ensures stepped { λ r. ⌜ r ≡ applyOf f c ⌝ }
+    ensures number { λ r. ⌜ numberOf (r .outcome) ≡ refusalOf f c ⌝ }
+    ensures value { λ r. ⌜ valueOf (r .outcome) ≡ valueSaid f c ⌝ }
 {
     step(f, commands::encode(c))
 }

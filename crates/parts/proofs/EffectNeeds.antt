@@ -5,16 +5,16 @@ use mathlib.Core.Path.{_≡_, subst}
 use borrow.Author.Tests.{leb-false}
 use Rattle.base.proofs.Choices.{passed}
 use Rattle.requests.specs.declared.Phase.{Phase}
-use Rattle.parts.specs.Parts.{beginIn, serveIn, deliverIn, refusalIn}
+use Rattle.parts.specs.Parts.{beginIn, deliverIn, refusalIn}
 use Rattle.parts.specs.declared.Parts.{Parts}
 use Rattle.commands.specs.declared.Command.{Command}
-use Rattle.commands.specs.declared.Command.the-variants.{Begin, Serve, Deliver}
+use Rattle.commands.specs.declared.Command.the-variants.{Begin, Deliver}
 
-module _ (p : Parts) (c : Command) (n : p .n ≤ 9) (e : refusalIn p c ≡ 0) where
+module _ (p : Parts) (c : Command) (e : refusalIn p c ≡ 0) where
   accepted : (x : Command) → c ≡ x → refusalIn p x ≡ 0
   accepted x q = subst (λ (y : Command). refusalIn p y ≡ 0) q e
 
-  pub begin-needs : (s round v : ℕ) → c ≡ Begin s round v → (p .n ≤ 9) × (p .used < 64)
+  pub begin-needs : (s round v : ℕ) → c ≡ Begin s round v → p .used < 64
   unfolding beginIn
   begin-needs s round v q =
       let x₁ = passed _ _ _ (accepted _ q) (omega arith) in
@@ -24,18 +24,11 @@ module _ (p : Parts) (c : Command) (n : p .n ≤ 9) (e : refusalIn p c ≡ 0) wh
       let x₅ = passed _ _ _ (x₄ .1) (omega arith) in
       let x₆ = passed _ _ _ (x₅ .1) (omega arith) in
       let x₇ = passed _ _ _ (x₆ .1) (omega arith) in
-      (n, leb-false _ _ (x₇ .0))
+      leb-false _ _ (x₇ .0)
 
-  pub serve-needs : (f : Phase) (a b : ℕ) → c ≡ Serve f a b → b < 9
-  unfolding serveIn
-  serve-needs f a b q =
+  pub deliver-needs : p .n ≤ 9 → (f : Phase) (a b : ℕ) → c ≡ Deliver f a b → b < 9
+  unfolding deliverIn
+  deliver-needs n f a b q =
       let x₁ = passed _ _ _ (accepted _ q) (omega arith) in
       let x₂ = passed _ _ _ (x₁ .1) (omega arith) in
       omega (arith, leb-false (p .n) b (x₂ .0))
-
-  pub deliver-needs : (f : Phase) (a b : ℕ) → c ≡ Deliver f a b → (p .n ≤ 9) × (b < 9)
-  unfolding deliverIn
-  deliver-needs f a b q =
-      let x₁ = passed _ _ _ (accepted _ q) (omega arith) in
-      let x₂ = passed _ _ _ (x₁ .1) (omega arith) in
-      (n, omega (arith, leb-false (p .n) b (x₂ .0)))

@@ -1,3 +1,4 @@
+pub mod NamedLaws
 pub mod EffectNeeds
 pub mod PlaceLaws
 pub mod DeliverLaws

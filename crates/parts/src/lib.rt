@@ -6,8 +6,13 @@ use attempts::Station;
 use commands::Outcome;
 use register::StorageBox;
 
+mod begin;
+mod deliver;
 mod kinds;
+mod leave;
 mod places;
+mod serve;
+mod stop;
 
 pub use kinds::change;
 pub use places::box_place;

@@ -1,6 +1,9 @@
 // The places of the floor's arrays that a command names.
 ghost use mathlib.Core.Path.{_≡_};
 ghost use Prim.Native.Nat.{_<_};
+ghost use mathlib.Core.Bool.{true};
+ghost use lib.Dec.{leb};
+ghost use Rattle.base.specs.Choice.{if_then_else_};
 ghost use Rattle.parts.specs.Parts.{placeIn, attemptIn, boxIn, stationIn};
 use commands::Command;
 
@@ -72,4 +75,14 @@ pub fn station_place(owner: u8, c: Command) -> u8
     ensures { λ r. ⌜ (r ≡ placeIn 16 (stationIn owner c)) × (r < 16) ⌝ }
 {
     place(16, station_in(owner, c))
+}
+
+// The attempt is not begun, or there is no such box: refusal 8 of a serve and of a delivery.
+pub(crate) fn unknown(used: u8, n: u8, a: u8, b: u8) -> bool
+    ensures { λ r. ⌜ r ≡ (if leb used a then true else leb n b) ⌝ }
+{
+    if used <= a {
+        return true;
+    }
+    n <= b
 }

@@ -1,5 +1,5 @@
 -- Playing a file, by its header's answer.
-use Prim.Native.Nat.{ℕ, _-_, _/_, _≤_}
+use Prim.Native.Nat.{ℕ, _-_, _/_, _%_, _≤_}
 use native.Mathlib.Omega.{arith}
 use native.Mathlib.Nat.{add-zero}
 use mathlib.Core.Path.{_≡_, refl, sym, ap, ap₂, subst, _∙_}
@@ -8,14 +8,17 @@ use lib.ListN.{length, take, drop, length-drop}
 use lib.Seq.{take-all}
 use borrow.Author.Tests.{eq-eqb, ne-eqb}
 use Rattle.base.proofs.Choices.{on-true, on-false}
-use Rattle.base.specs.Records.{recordsFrom}
+use Rattle.base.specs.Records.{recordsFrom, recordsIn}
 use mathlib.Core.Bool.{true}
 use Rattle.base.specs.Choice.{if_then_else_}
 use Rattle.base.specs.Numbers.{sizesRight}
 use Rattle.base.proofs.RecordLaws.{records-drop}
 use Rattle.floor.specs.Floors.{emptyFloor, newFloorOf}
-use Rattle.floor.specs.Runs.{playedOn}
+use Rattle.floor.specs.Runs.{playedOn, playedIn}
 use Rattle.floor.specs.Claims.{PlayedOver}
+use Rattle.floor.proofs.SoundLaws.{sound-holds}
+use Rattle.floor.proofs.Keeps.{new-sound}
+use Rattle.floor.proofs.RunCalls.{run-0, played-whole}
 use Rattle.floor.proofs.RunMeans.{run-played}
 use Rattle.drill_file.specs.DrillFile.{boxesOf, stationsOf, fileRefusal, headerOf, recordsOf}
 use Rattle.drill_file.specs.Claims.{Values}
@@ -58,23 +61,32 @@ module _ (s : List ℕ) (h : Header) (e : h ≡ headerOf s) where
     values : Values s n m start count
     values = accepted-values s n m start count (sym e ∙ q)
 
-    pub start-within : start ≤ length s
-    start-within = let w = accepted-passed s (values .accepted) .labelled .within in omega (arith, values .starts)
+    -- the records start behind the header, and within the file
+    pub start-within : (6 ≤ start) × (start ≤ length s)
+    start-within = let w = accepted-passed s (values .accepted) .labelled .within in (omega (arith, values .starts), omega (arith, values .starts))
 
     rest : take (length s - start) (drop start s) ≡ drop start s
     rest = take-all (length s - start) (drop start s) (rw length-drop (omega arith))
 
-    records : recordsFrom (length (take (length s - start) (drop start s)) / 8) (take (length s - start) (drop start s)) 0 ≡ recordsOf s
+    records : recordsIn (drop start s) ≡ recordsOf s
     records =
-        ap (λ (l : List ℕ). recordsFrom (length l / 8) l 0) rest
-        ∙ ap (λ (k : ℕ). recordsFrom (k / 8) (drop start s) 0) (length-drop start s)
+        ap (λ (k : ℕ). recordsFrom (k / 8) (drop start s) 0) (length-drop start s)
         ∙ records-drop ((length s - start) / 8) s start 0
         ∙ ap (recordsFrom ((length s - start) / 8) s) (add-zero start)
         ∙ ap (λ (k : ℕ). recordsFrom ((length s - k) / 8) s k) (values .starts)
 
-    pub header-played : (y : Played) → y ≡ playedOn (newFloorOf n m .floor) (recordsFrom (length (take (length s - start) (drop start s)) / 8) (take (length s - start) (drop start s)) 0) → y ≡ playedOf s
+    -- they are whole, and a new floor is sound: nothing turns them back before the first step
+    whole : length (drop start s) % 8 ≡ 0
+    whole = omega (arith, length-drop start s, accepted-passed s (values .accepted) .recorded .whole, values .starts)
+
+    untouched : playedIn (newFloorOf n m .floor) (drop start s) ≡ playedOn (newFloorOf n m .floor) (recordsIn (drop start s))
+    untouched =
+        let f = newFloorOf n m .floor in
+        sym (played-whole f (drop start s) 0 (run-0 f (drop start s) (sound-holds f (new-sound n m)) whole) refl (playedOn f (recordsIn (drop start s))) refl)
+
+    pub header-played : (y : Played) → y ≡ playedIn (newFloorOf n m .floor) (take (length s - start) (drop start s)) → y ≡ playedOf s
     header-played y ey =
-        ey ∙ ap (playedOn (newFloorOf n m .floor)) records
+        ey ∙ ap (playedIn (newFloorOf n m .floor)) rest ∙ untouched ∙ ap (playedOn (newFloorOf n m .floor)) records
         ∙ ap₂ (λ (a b : ℕ). playedOn (newFloorOf a b .floor) (recordsOf s)) (values .boxes) (values .stations)
         ∙ sym (played-accepted s (values .accepted))
 

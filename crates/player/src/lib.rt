@@ -1,17 +1,14 @@
 // Plays a drill file on a new floor.
 ghost use mathlib.Core.Path.{_≡_};
-ghost use lib.ListN.{length};
-ghost use Prim.Native.Nat.{_/_};
-ghost use Rattle.base.specs.Records.{recordsFrom};
 ghost use Rattle.floor.specs.Floors.{newFloorOf};
-ghost use Rattle.floor.specs.Runs.{playedOn};
+ghost use Rattle.floor.specs.Runs.{playedIn};
 ghost use Rattle.player.specs.Play.{playedOf, lastRank};
 use drill_file::Header;
 use floor::Played;
 
 // Plays records on the new floor of n boxes and m stations.
 fn play_records(n: u8, m: u8, records: &[u8]) -> Played
-    ensures { λ r. ⌜ r ≡ playedOn (newFloorOf n m .floor) (recordsFrom (length (now (records .entry)) / 8) (now (records .entry)) 0) ⌝ }
+    ensures { λ r. ⌜ r ≡ playedIn (newFloorOf n m .floor) (now (records .entry)) ⌝ }
 {
     let made = floor::new_floor(n, m);
     let start = made.floor;

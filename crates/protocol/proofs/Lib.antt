@@ -1,6 +1,6 @@
-pub mod ExampleRuns
-pub mod Instances
-pub mod Invariance
-pub mod Theory
-pub mod TraceLaws
 pub mod VotingLaws
+pub mod Invariance
+pub mod TraceLaws
+pub mod Theory
+pub mod Instances
+pub mod ExampleRuns

@@ -1,12 +1,14 @@
 -- The laws of one phase: requests issued wait at every box below n; one served there is on its way; the q-th answer; all said yes.
-use Prim.Native.Nat.{ℕ, zero, suc, _≤_, _<_}
+use Prim.Native.Nat.{ℕ, zero, suc, _≤_, _<_, min}
+use native.Mathlib.Nat.{min-eq-left, min-eq-right}
 use native.Mathlib.Omega.{arith}
 use mathlib.Core.Path.{_≡_, refl, sym, ap, _∙_}
 use mathlib.Core.Logic.{_⊎_, inl, inr}
 use mathlib.Core.Bool.{Bool, true, false}
+use lib.Dec.{ltb}
 use lib.ListN.{length, getD, length-set}
-use lib.Seq.{getD-set-same, getD-set-other}
-use borrow.Author.Tests.{eqb-true, eq-eqb, ne-eqb}
+use lib.Seq.{set-out, getD-set-same, getD-set-other}
+use borrow.Author.Tests.{ltb-true, ltb-false, eqb-true, eq-eqb, ne-eqb}
 use Rattle.base.specs.Choice.{if_then_else_}
 use Rattle.base.specs.Numbers.{quorum}
 use Rattle.base.proofs.Choices.{by-test, both-true}
@@ -17,7 +19,7 @@ use Rattle.requests.specs.Requests.{slot0, slotAt, heardFrom, standing, 
 use Rattle.requests.specs.declared.Stage.the-variants.{Answered}
 use Rattle.requests.specs.declared.Slot.{Slot}
 use Rattle.requests.specs.declared.Requests.{Requests}
-use Rattle.base.proofs.Cases.{clash, up-to}
+use Rattle.base.proofs.Cases.{clash, by-cases, up-to}
 use Rattle.requests.proofs.Standings.{waits-holds, arrives-holds}
 use Rattle.base.proofs.Stores.{set-in, set-all, getD-same}
 
@@ -26,6 +28,17 @@ pub waiting-length : (k : ℕ) → length (waitingBelow k) ≡ 9
 unfolding waitingBelow
 waiting-length zero = refl
 waiting-length (suc k) = length-set (waitingBelow k) k _ ∙ waiting-length k
+
+-- past its end nothing is stored
+pub waiting-most : (n : ℕ) → waitingBelow (min n 9) ≡ waitingBelow n
+unfolding waitingBelow
+waiting-most zero = refl
+waiting-most (suc n) =
+    by-cases (ltb n 9)
+    (λ e. rw (min-eq-left {n = suc n} {m = 9} (ltb-true n 9 e)))
+    (λ e. let h = ltb-false n 9 e in
+    rw (min-eq-right {n = 9} {m = suc n} (omega arith), set-out (waitingBelow n) n slotWaiting (omega (arith, waiting-length n)))
+    (rw (min-eq-right {n = 9} {m = n} h) at (waiting-most n)))
 
 pub served-length : (h : Requests) (b : ℕ) (t : Bool) → length (servedAt h b t .slots) ≡ length (h .slots)
 served-length h b t = length-set (h .slots) b _

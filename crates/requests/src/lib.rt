@@ -1,7 +1,9 @@
 // One phase of an attempt at every box: where its request stands at each, whether the answer is a yes, and whose answers were
 // received. Nothing here knows a rank or a revision: those that answers carry stand beside a phase, in the row.
 ghost use mathlib.Core.Path.{_≡_};
-ghost use Prim.Native.Nat.{_<_, _≤_};
+ghost use Prim.Native.Nat.{_≤_};
+ghost use lib.Dec.{ltb};
+ghost use Rattle.base.specs.Choice.{if_then_else_};
 ghost use Rattle.requests.specs.Requests.{noneIssued, standingOf, isWaiting, isOnTheWay, issuedTo, servedAt, receivedFrom, heardFrom, atQuorum, stillYes, allYes};
 
 mod masks;
@@ -47,7 +49,6 @@ pub fn none_issued() -> Requests
 
 // A request waits at each box below n, and no answer was received.
 pub fn issued(n: u8) -> Requests
-    requires { ⌜ n ≤ 9 ⌝ }
     ensures { λ r. ⌜ r ≡ issuedTo n ⌝ }
 {
     let slots = slots::waiting_below(n);
@@ -56,9 +57,11 @@ pub fn issued(n: u8) -> Requests
 
 // The request waits at box b.
 pub fn waits(q: Requests, b: u8) -> bool
-    requires { ⌜ b < 9 ⌝ }
     ensures { λ r. ⌜ r ≡ isWaiting (standingOf q b) ⌝ }
 {
+    if 9 <= b {
+        return false;
+    }
     let slot = q.slots[b as usize];
     let stage = slot.stage;
     slots::waiting_at(stage, q.heard, b)
@@ -66,48 +69,50 @@ pub fn waits(q: Requests, b: u8) -> bool
 
 // The answer is on the way from box b.
 pub fn on_the_way(q: Requests, b: u8) -> bool
-    requires { ⌜ b < 9 ⌝ }
     ensures { λ r. ⌜ r ≡ isOnTheWay (standingOf q b) ⌝ }
 {
+    if 9 <= b {
+        return false;
+    }
     let slot = q.slots[b as usize];
     let stage = slot.stage;
     slots::coming_from(stage, q.heard, b)
 }
 
-// Box b has answered: its answer is on the way.
+// Box b has answered: its answer is on the way. From box 9 on nothing is stored.
 pub fn served(q: Requests, b: u8, ok: bool) -> Requests
-    requires { ⌜ b < 9 ⌝ }
     ensures { λ r. ⌜ r ≡ servedAt q b ok ⌝ }
 {
     let mut g = q;
-    g.slots[b as usize] = Slot {
-        stage: Stage::Answered,
-        ok,
-    };
+    if b < 9 {
+        g.slots[b as usize] = Slot {
+            stage: Stage::Answered,
+            ok,
+        };
+    }
     g
 }
 
-// The answer of box b is received.
+// The answer of box b is received. From box 9 on nothing is received.
 pub fn received(q: Requests, b: u8) -> Requests
-    requires { ⌜ b < 9 ⌝ }
-    ensures { λ r. ⌜ r ≡ receivedFrom q b ⌝ }
+    ensures { λ r. ⌜ r ≡ (if ltb b 9 then receivedFrom q b else q) ⌝ }
 {
     let mut g = q;
-    g.heard = masks::with_bit(q.heard, b);
+    if b < 9 {
+        g.heard = masks::with_bit(q.heard, b);
+    }
     g
 }
 
 // The answer of box b was received.
 pub fn heard_from(q: Requests, b: u8) -> bool
-    requires { ⌜ b < 9 ⌝ }
     ensures { λ r. ⌜ r ≡ heardFrom q b ⌝ }
 {
-    masks::has(q.heard, b)
+    masks::has_any(q.heard, b)
 }
 
 // The boxes below n whose answers were received are exactly a quorum.
 pub fn at_quorum(q: Requests, n: u8) -> bool
-    requires { ⌜ n ≤ 9 ⌝ }
     ensures { λ r. ⌜ r ≡ atQuorum q n ⌝ }
 {
     masks::count_below(q.heard, n) == base::majority(n) as u32
@@ -125,8 +130,8 @@ fn still_yes(before: bool, heard: bool, s: Slot) -> bool
     before
 }
 
-// Each answer received from a box below n says yes.
-pub fn all_yes(q: Requests, n: u8) -> bool
+// All yes, among the boxes that have a slot.
+fn yes_below(q: Requests, n: u8) -> bool
     requires { ⌜ n ≤ 9 ⌝ }
     ensures { λ r. ⌜ r ≡ allYes q n ⌝ }
 {
@@ -139,4 +144,18 @@ pub fn all_yes(q: Requests, n: u8) -> bool
         k += 1;
     }
     ok
+}
+
+// Each answer received from a box below n says yes.
+pub fn all_yes(q: Requests, n: u8) -> bool
+    ensures { λ r. ⌜ r ≡ allYes q n ⌝ }
+{
+    if n <= 9 {
+        return yes_below(q, n);
+    }
+    // From box 9 on there is no slot: an answer received there is no yes.
+    if masks::count_below(q.heard, n) != masks::count_below(q.heard, 9) {
+        return false;
+    }
+    yes_below(q, 9)
 }

@@ -1,5 +1,7 @@
 -- What is claimed of a solo finish, proved.
 use Rattle.solo.specs.Claims.{SoloClaims}
+use Rattle.solo.proofs.PlanLaws.{plan-begins}
+use Rattle.solo.proofs.FrontLaws.{solo-number, solo-value}
 use Rattle.solo.proofs.RoundLaws.{round-smallest}
 use Rattle.solo.proofs.CountLaws.{solo-counted}
 use Rattle.solo.proofs.LawfulLaws.{step-lawful, new-lawful}
@@ -8,6 +10,9 @@ use Rattle.solo.proofs.Decides.{solo-decides, solo-ends}
 pub solo-claims : SoloClaims
 solo-claims = record {
   smallest = round-smallest;
+  begins = plan-begins;
+  number = solo-number;
+  value = solo-value;
   counted = solo-counted;
   ends = solo-ends;
   decides = solo-decides;

@@ -6,7 +6,8 @@ use mathlib.Core.Bool.{true, false}
 use lib.ListN.{length}
 use borrow.Author.Tests.{leb-false, lt-leb, ltb-false, le-ltb, eq-eqb, ne-eqb}
 use Rattle.base.specs.Numbers.{quorum}
-use Rattle.base.proofs.Choices.{on-true, on-false, by-test, passed}
+use Rattle.base.proofs.Choices.{on-true, on-false, by-test, passed, choice-ap}
+use Rattle.commands.specs.Outcomes.{numberOf, valueOf}
 use Rattle.attempts.specs.Stations.{isGone, isBusy}
 use Rattle.floor.specs.Floors.{stationAt}
 use Rattle.floor.specs.Sound.{soundOf}
@@ -15,7 +16,7 @@ use Rattle.floor.specs.declared.Floor.{Floor}
 use Rattle.floor.specs.declared.Until.the-variants.{End}
 use Rattle.floor.proofs.RefusalLaws.{positive}
 use Rattle.solo.specs.Plan.{highestBegun, roundAbove, roundOf, answering, beginOf, exchangesOf}
-use Rattle.solo.specs.Solo.{frontRefusal, soloRefusal, turnedAway, ofRun, soloOf}
+use Rattle.solo.specs.Solo.{frontRefusal, soloRefusal, turnedAway, ofRun, soloOf, soloNumber, soloValue}
 use Rattle.solo.specs.declared.Solo.{Solo}
 
 -- no refusal from 8 on applies
@@ -65,6 +66,15 @@ module _ (f : Floor) (s v : ℕ) where
   pub solo-driven : soloRefusal f s v ≡ 0 → soloOf f s v ≡ ofRun (runOf End f (beginOf f s v) (exchangesOf f))
   unfolding soloOf
   solo-driven e = sym (on-true _ (eq-eqb _ _ e) refl)
+
+  -- its number and its value
+  pub solo-number : numberOf (soloOf f s v .outcome) ≡ soloNumber f s v
+  unfolding soloOf soloNumber
+  solo-number = choice-ap (λ (d : Solo). numberOf (d .outcome)) _ _ _
+
+  pub solo-value : valueOf (soloOf f s v .outcome) ≡ soloValue f s v
+  unfolding soloOf soloValue
+  solo-value = choice-ap (λ (d : Solo). valueOf (d .outcome)) _ _ _
 
   pub refusal-unsound : soundOf f ≡ false → soloRefusal f s v ≡ 6
   unfolding soloRefusal

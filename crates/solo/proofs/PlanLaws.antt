@@ -1,4 +1,4 @@
--- The boxes that answer, and how many steps the exchanges with them are.
+-- The begin of the plan, the boxes that answer, and how many steps the exchanges with them are.
 use Prim.Native.Nat.{ℕ, zero, suc, _+_, _-_, _*_, _≤_, _<_}
 use native.Mathlib.Omega.{arith}
 use native.Mathlib.Nat.{sub-zero, zero-add}
@@ -12,8 +12,15 @@ use Rattle.register.specs.Register.{box0}
 use Rattle.register.specs.declared.StorageBox.{StorageBox}
 use Rattle.requests.specs.declared.Phase.{Phase}
 use Rattle.requests.specs.declared.Phase.the-variants.{Read, Write}
+use Rattle.commands.specs.Commands.{commandOf}
+use Rattle.commands.specs.declared.Command.the-variants.{Begin}
+use Rattle.commands.proofs.Encodings.{decode-encode}
 use Rattle.floor.specs.declared.Floor.{Floor}
-use Rattle.solo.specs.Plan.{answeringFrom, lowest, askedOf, exchange, exchanges, exchangesOf, planOf}
+use Rattle.solo.specs.Plan.{roundOf, answeringFrom, lowest, askedOf, exchange, exchanges, beginOf, exchangesOf, planOf}
+
+-- the plan begins with this station and this revision
+pub plan-begins : (f : Floor) (s v : ℕ) → commandOf (beginOf f s v) ≡ Begin s (roundOf f s) v
+plan-begins f s v = decode-encode (Begin s (roundOf f s) v)
 
 -- box b and those after it
 pub one-box : (n b : ℕ) → b < n → n - b ≡ suc (n - (b + 1))

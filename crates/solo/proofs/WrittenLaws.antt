@@ -1,5 +1,5 @@
 -- The buffer that the plan is written into: what stands at its front, store by store, record by record and box by box.
-use Prim.Native.Nat.{ℕ, zero, suc, _+_, _-_, _*_, _/_, _<_, _≤_}
+use Prim.Native.Nat.{ℕ, zero, suc, _+_, _-_, _*_, _%_, _<_, _≤_}
 use native.Mathlib.Omega.{arith}
 use native.Mathlib.Nat.{add-zero, sub-zero}
 use native.Mathlib.Numerals.{add-one}
@@ -9,19 +9,21 @@ use mathlib.Core.List.{List, [], _∷_, _++_, flatten, append-assoc, append-nil}
 use lib.ListN.{length, getD, take, set, length-set}
 use lib.Seq.{take-all, take-suc, take-suc-set}
 use Rattle.base.specs.Numbers.{quorum}
-use Rattle.base.specs.Records.{recordsFrom}
-use Rattle.base.proofs.RecordLaws.{joined-append, records-again}
+use Rattle.base.specs.Records.{recordsIn}
+use Rattle.base.proofs.RecordLaws.{joined-append, joined-length, all-eight, records-again}
 use Rattle.register.specs.Register.{box0}
 use Rattle.register.specs.declared.StorageBox.{StorageBox}
 use Rattle.requests.specs.declared.Phase.{Phase}
 use Rattle.requests.specs.declared.Phase.the-variants.{Read, Write}
 use Rattle.commands.specs.Commands.{encodeOf}
 use Rattle.commands.specs.declared.Command.the-variants.{Begin}
-use Rattle.floor.specs.Runs.{runOf}
+use Rattle.floor.specs.Runs.{runOf, drivenIn}
 use Rattle.floor.specs.Claims.{Sound}
 use Rattle.floor.specs.declared.Floor.{Floor}
 use Rattle.floor.specs.declared.Ran.{Ran}
 use Rattle.floor.specs.declared.Until.the-variants.{End}
+use Rattle.floor.proofs.SoundLaws.{sound-holds}
+use Rattle.floor.proofs.RunCalls.{run-0, driven-whole}
 use Rattle.solo.specs.Plan.{roundOf, answeringFrom, lowest, askedOf, exchange, exchanges, beginOf, exchangesOf}
 use Rattle.solo.proofs.PlanLaws.{one-box, answering-skip, answering-take, answering-none}
 use Rattle.solo.proofs.PlanRecords.{plan-rest}
@@ -139,7 +141,9 @@ module _ (f : Floor) (l l' : List ℕ) (m end : ℕ) where
 
 module _ (f : Floor) (s v round : ℕ) (r l : List ℕ) (x : Ran) where
   pub plan-run : Sound f → round ≡ roundOf f s → r ≡ encodeOf (Begin s round v) → l ≡ flatten (exchangesOf f)
-      → x ≡ runOf End f r (recordsFrom (length l / 8) l 0) → x ≡ runOf End f (beginOf f s v) (exchangesOf f)
+      → x ≡ drivenIn f r l → x ≡ runOf End f (beginOf f s v) (exchangesOf f)
   plan-run z hr er el ex =
-      let again = records-again (exchangesOf f) (plan-rest f (omega (arith, z .rows-most)) (omega (arith, z .box-most))) in
-      ex ∙ rw (er, hr, el, again)
+      let all = plan-rest f (omega (arith, z .rows-most)) (omega (arith, z .box-most)) in
+      let whole : length l % 8 ≡ 0 = omega (arith, ap length el, joined-length (exchangesOf f) (all-eight (exchangesOf f) all)) in
+      ex ∙ sym (driven-whole f l 0 (run-0 f l (sound-holds f z) whole) r refl (runOf End f r (recordsIn l)) refl)
+      ∙ rw (er, hr, el, records-again (exchangesOf f) all)

@@ -6,7 +6,9 @@ use mathlib.Core.Bool.{false}
 use mathlib.Core.List.{List}
 use lib.ListN.{length}
 use Rattle.base.specs.Numbers.{quorum, rankOf}
-use Rattle.commands.specs.Outcomes.{isRefused}
+use Rattle.commands.specs.Commands.{commandOf}
+use Rattle.commands.specs.Outcomes.{numberOf, valueOf, isRefused}
+use Rattle.commands.specs.declared.Command.the-variants.{Begin}
 use Rattle.commands.specs.declared.Outcome.the-variants.{Aborted, Decided}
 use Rattle.attempts.specs.declared.State.the-variants.{Idle}
 use Rattle.floor.specs.Floors.{boxAt, stationAt, rowAt, newFloorOf}
@@ -14,8 +16,8 @@ use Rattle.floor.specs.Step.{stepOf}
 use Rattle.floor.specs.Runs.{floorAt, saidAt}
 use Rattle.floor.specs.Claims.{Sound, Lengths}
 use Rattle.floor.specs.declared.Floor.{Floor}
-use Rattle.solo.specs.Plan.{highestBegun, roundOf, answering, planOf}
-use Rattle.solo.specs.Solo.{turnedAway, soloOf}
+use Rattle.solo.specs.Plan.{highestBegun, roundOf, answering, beginOf, planOf}
+use Rattle.solo.specs.Solo.{turnedAway, soloOf, soloNumber, soloValue}
 use Rattle.solo.specs.declared.Solo.{Solo}
 
 -- "the smallest round, at least 1, whose rank passes every rank begun on the floor"
@@ -66,6 +68,11 @@ pub data Ends (f : Floor) (d : Solo) : Type 0 where
 -- What holds of every solo finish.
 pub record SoloClaims : Type 0 where
   pub smallest : (f : Floor) (s : ℕ) → Smallest f s (roundOf f s)
+  -- "whatever revision it offers": its first step is the begin of this station with this revision
+  pub begins : (f : Floor) (s v : ℕ) → commandOf (beginOf f s v) ≡ Begin s (roundOf f s) v
+  -- document 01's number and value of what it says
+  pub number : (f : Floor) (s v : ℕ) → numberOf (soloOf f s v .outcome) ≡ soloNumber f s v
+  pub value : (f : Floor) (s v : ℕ) → valueOf (soloOf f s v .outcome) ≡ soloValue f s v
   -- refused solo finishes too
   pub counted : (f : Floor) (s v : ℕ) → Counted f (planOf f s v) (soloOf f s v)
   pub ends : (f : Floor) (s v : ℕ) → Lengths f → Ends f (soloOf f s v)

@@ -4,6 +4,7 @@ use lib.ListN.{length}
 use lib.Dec.{eqb, leb, ltb}
 use Rattle.base.specs.Choice.{if_then_else_}
 use Rattle.base.specs.Numbers.{quorum}
+use Rattle.commands.specs.Outcomes.{numberOf, valueOf}
 use Rattle.commands.specs.declared.Outcome.the-variants.{Refused}
 use Rattle.attempts.specs.Stations.{isGone, isBusy}
 use Rattle.floor.specs.Floors.{stationAt}
@@ -46,3 +47,14 @@ unfoldable pub soloOf : (f : Floor) (station revision : ℕ) → Solo
 soloOf f station revision =
     if eqb (soloRefusal f station revision) 0 then ofRun (runOf End f (beginOf f station revision) (exchangesOf f))
     else turnedAway f (soloRefusal f station revision)
+
+-- Document 01's number and value of what it says: its own refusal, which has no value, or those of what its last step said.
+unfoldable pub soloNumber : (f : Floor) (station revision : ℕ) → ℕ
+soloNumber f station revision =
+    if eqb (soloRefusal f station revision) 0 then numberOf (runOf End f (beginOf f station revision) (exchangesOf f) .outcome)
+    else soloRefusal f station revision
+
+unfoldable pub soloValue : (f : Floor) (station revision : ℕ) → ℕ
+soloValue f station revision =
+    if eqb (soloRefusal f station revision) 0 then valueOf (runOf End f (beginOf f station revision) (exchangesOf f) .outcome)
+    else 0

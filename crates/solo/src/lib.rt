@@ -8,11 +8,12 @@ ghost use Prim.Native.Nat.{_+_, _*_, _<_, _≤_, max};
 ghost use lib.ListN.{length, take};
 ghost use lib.Dec.{ltb};
 ghost use Rattle.base.specs.Numbers.{quorum};
+ghost use Rattle.commands.specs.Outcomes.{numberOf, valueOf};
 ghost use Rattle.floor.specs.Runs.{runOf};
 ghost use Rattle.floor.specs.Claims.{Sound};
 ghost use Rattle.floor.specs.declared.Until.the-variants.{End};
 ghost use Rattle.solo.specs.Plan.{highestBegun, roundAbove, roundOf, answeringFrom, lowest, exchange, exchanges, beginOf, exchangesOf};
-ghost use Rattle.solo.specs.Solo.{frontRefusal, turnedAway, ofRun, soloOf};
+ghost use Rattle.solo.specs.Solo.{frontRefusal, turnedAway, ofRun, soloOf, soloNumber, soloValue};
 use commands::Command;
 use commands::Outcome;
 use floor::Floor;
@@ -106,10 +107,14 @@ fn refusal(f: Floor, s: u8, v: u32, round: u32) -> u8
     }
     let station = f.stations[s as usize];
     let state = station.state;
-    if attempts::gone(state) {
+    let boxes = f.boxes;
+    let gone = attempts::gone(state);
+    let busy = attempts::busy(state);
+    let few = too_few(boxes, f.n);
+    if gone {
         return 9;
     }
-    if attempts::busy(state) {
+    if busy {
         return 10;
     }
     if v == 0 {
@@ -121,8 +126,7 @@ fn refusal(f: Floor, s: u8, v: u32, round: u32) -> u8
     if 64 <= f.used {
         return 12;
     }
-    let boxes = f.boxes;
-    if too_few(boxes, f.n) {
+    if few {
         return 15;
     }
     0
@@ -196,7 +200,9 @@ fn drive(f: Floor, s: u8, round: u16, v: u32) -> Solo
 
 // For a station and a revision: the floor, how many steps led to it, and what the last step said.
 pub fn solo_finish(f: Floor, s: u8, v: u32) -> Solo
-    ensures { λ r. ⌜ r ≡ soloOf f s v ⌝ }
+    ensures finished { λ r. ⌜ r ≡ soloOf f s v ⌝ }
+    ensures number { λ r. ⌜ numberOf (r .outcome) ≡ soloNumber f s v ⌝ }
+    ensures value { λ r. ⌜ valueOf (r .outcome) ≡ soloValue f s v ⌝ }
 {
     if !floor::sound(f) {
         return turned_away(f, 6);

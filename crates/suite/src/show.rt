@@ -77,12 +77,52 @@ fn tallies(f: Floor, count: u8) -> Floor {
     f
 }
 
+// A run of the last bytes of three records, the stop of box 0, of box 1, and of box 0 again.
+fn run_of_bytes(f: Floor, size: u8) -> Floor {
+    let count = size % 25;
+    let stops: [u8; 24] = [
+        6,
+        0,
+        0,
+        0,
+        0,
+        0,
+        0,
+        0,
+        6,
+        1,
+        0,
+        0,
+        0,
+        0,
+        0,
+        0,
+        6,
+        0,
+        0,
+        0,
+        0,
+        0,
+        0,
+        0,
+    ];
+    let bytes = text::from(&stops, (24 - count) as usize);
+    let played = floor::run(f, bytes);
+    text::fill(
+        b"run of % bytes -> accepted %, ",
+        &[count as u64, played.accepted as u64],
+    );
+    say::refusal(played.refusal);
+    played.floor
+}
+
 // A record that is no step.
 fn by_other(f: Floor, r: [u8; 8]) -> Floor {
     let kind = r[0];
     match kind {
         0xf4 => alone(f, r),
         0xf5 => tallies(f, r[1]),
+        0xf6 => run_of_bytes(f, r[1]),
         _ => {
             say::change(r);
             hand::change(f, r)

@@ -1,5 +1,9 @@
 use borrow.Author.Needs.{needs}
+use borrow.Author.Tests.{le-leb}
+use mathlib.Core.Path.{refl}
 use Rattle.base.specs.Bytes.{wordAt}
+use Rattle.base.proofs.Choices.{on-true, on-false}
+use Rattle.base.proofs.Room.{none-in-short, none-past, room}
 use Rattle.base.proofs.get_u32.Statement.{statement}
 use Rattle.base.proofs.get_u32.Tie as tie
 
@@ -8,6 +12,9 @@ unfolding wordAt
 get-u32-spec =
     tie.close
     (tie.spec
+    (λ c. on-false _ (none-in-short _ _ (c .if1 .taken)) refl)
+    (λ c. search needs)
+    (λ c. on-false _ (none-past _ _ (c .if2 .taken)) refl)
     (λ c. search needs)
     (λ c. search needs)
     (λ c. search needs)
@@ -16,4 +23,6 @@ get-u32-spec =
     (λ c. search needs)
     (λ c. search needs)
     (λ c κs. search needs)
-    (λ c. c .be32 .ensures))
+    (λ c.
+    let d = c .before .before .before .before .before in
+    on-true _ (le-leb _ _ (room _ _ (d .before .if1 .left) (d .if2 .left))) (c .be32 .ensures)))

@@ -10,4 +10,4 @@ load-spec =
     (λ c κs. search needs)
     (λ c κs. search needs)
     (λ c κs. search needs)
-    (λ c. decode-words _ (c .before .before .get-u32 .ensures) (c .before .get-u322 .ensures) (c .get-u323 .ensures)))
+    (λ c. decode-words _ (c .before .before .before .before .pre) (c .before .before .get-u32 .ensures) (c .before .get-u322 .ensures) (c .get-u323 .ensures)))

@@ -8,7 +8,7 @@ returns c =
     let second = c .before .before .before .before .before .before in
     let first = second .before .before .before .before in
     let start = first .before .before .before in
-    record-stored _ _ _ _ _ (start .pre) (first .put-u32 .ensures) (second .put-u322 .ensures) (c .before .before .put-u323 .ensures)
+    record-stored (start .args .s .now) _ _ _ _ (start .pre) (first .put-u32 .ensures) (second .put-u322 .ensures) (c .before .before .put-u323 .ensures)
 
 pub store-spec : {M : Type 1} → statement M
 store-spec =

@@ -1,7 +1,10 @@
 use borrow.Author.Needs.{needs}
 use mathlib.Core.Path.{ap, _∙_}
+use Rattle.commands.specs.Outcomes.{numberOf, valueOf}
 use Rattle.floor.specs.Step.{stepOf}
+use Rattle.floor.specs.declared.Stepped.{Stepped}
 use Rattle.floor.proofs.StepLaws.{step-encode}
+use Rattle.floor.proofs.Numbered.{apply-number, apply-value}
 use Rattle.floor.proofs.apply.Statement.{statement}
 use Rattle.floor.proofs.apply.Tie as tie
 
@@ -11,4 +14,6 @@ apply-spec =
     (tie.spec
     (λ c κs. search needs)
     (λ c κs. search needs)
-    (λ c. c .step .ensures .0 ∙ ap (stepOf _) (c .before .encode .ensures) ∙ step-encode _ _))
+    (λ c.
+    let e = c .step .ensures .0 ∙ ap (stepOf _) (c .before .encode .ensures) ∙ step-encode _ _ in
+    (e, (ap (λ (x : Stepped). numberOf (x .outcome)) e ∙ apply-number _ _, ap (λ (x : Stepped). valueOf (x .outcome)) e ∙ apply-value _ _))))

@@ -3,10 +3,13 @@ use Prim.Native.Nat.{_≤_, _<_, _-_, _*_, _/_}
 use native.Mathlib.Omega.{arith}
 use native.Mathlib.Nat.{sub-zero}
 use borrow.Author.Needs.{needs}
+use borrow.Author.Tests.{le-leb}
 use mathlib.Core.Path.{_≡_, sym, ap, subst, _∙_}
 use mathlib.Core.Bool.{true, false}
 use lib.ListN.{length}
 use Rattle.base.specs.Records.{recordsFrom}
+use Rattle.base.proofs.Choices.{chosen}
+use Rattle.commands.specs.Commands.{commandOf}
 use Rattle.commands.specs.Outcomes.{isRefused}
 use Rattle.parts.specs.Parts.{changeIn}
 use Rattle.parts.specs.declared.Parts.{Parts}
@@ -46,7 +49,9 @@ turn x = record {
   row = x .before .before .before .before .before .before .before .row-place .ensures .0;
   storage = x .before .before .before .before .before .before .box-place .ensures .0;
   station = x .before .before .before .before .station-place .ensures .0;
-  change = x .change .ensures ∙ ap (λ (p : Parts). changeIn p (head x .loop .c)) (x .before .gathered .ensures);
+  change =
+      chosen _ (le-leb _ _ (subst (λ (p : Parts). p .n ≤ 9) (sym (x .before .gathered .ensures)) (head x .loop .inv .1 .box-most))) (x .change .ensures)
+      ∙ ap (λ (p : Parts). changeIn p (head x .loop .c)) (x .before .gathered .ensures);
 }
 
 -- the step was refused, or accepted
@@ -80,7 +85,7 @@ run-sound-spec =
     (λ c. search needs)
     (λ c. search needs)
     (λ c κs. search needs)
-    (λ c κs. subst (λ (x : Parts). x .n ≤ 9) (sym (c .gathered .ensures)) (c .before .before .before .before .before .before .before .loop .inv .1 .box-most))
+    (λ c κs. search needs)
     (λ c κs. search needs)
     (λ c. let x = c .before .before in turn-refused (turn x) _ _ _ (turned-back c) ∙ head x .loop .inv .2)
     (λ c. let h = changing c .before .before .before .before .before .before .before .row-place .ensures .1 in search needs)
@@ -97,11 +102,13 @@ run-sound-spec =
     turn-over (turn (changing x)) (accepted x) _ _ _ _ (sym (c .before .over .ensures) ∙ c .if2 .taken) ∙ head (changing x) .loop .inv .2)
     (λ c. let h = left c in let z = head (changing (c .before .before)) .before .before .good in omega arith)
     (λ c κs. let h = left c in let z = head (changing (c .before .before)) .before .before .good in omega arith)
-    (λ c. let h = left (c .before) in let z = head (changing (c .before .before .before)) .before .before .good in omega arith)
-    (λ c. let h = left (c .before) in omega arith)
+    (λ c κs. search needs)
+    (λ c. let h = left (c .before .before) in let z = head (changing (c .before .before .before .before)) .before .before .good in omega arith)
+    (λ c. let h = left (c .before .before) in omega arith)
     (λ c.
-    let x = c .before .before .before in
+    let x = c .before .before .before .before in
     let t = turn (changing x) in
     let a = accepted x in
-    let h = left (c .before) in
-    (omega arith, turn-sound t a, turn-on t a _ _ _ _ (sym (c .before .before .over .ensures) ∙ c .before .if2 .left) _ (c .command-at .ensures) ∙ head (changing x) .loop .inv .2)))
+    let h = left (c .before .before) in
+    let next = c .decode .ensures ∙ ap commandOf (c .before .record-at .ensures) in
+    (omega arith, turn-sound t a, turn-on t a _ _ _ _ (sym (c .before .before .before .over .ensures) ∙ c .before .before .if2 .left) _ next ∙ head (changing x) .loop .inv .2)))

@@ -1,3 +1,4 @@
+use native.Mathlib.Omega.{arith}
 use borrow.Author.Needs.{needs}
 use Rattle.player.proofs.PlayLaws.{start-within, header-refused, header-played}
 use Rattle.player.proofs.play.Statement.{statement}
@@ -11,8 +12,8 @@ play-spec =
     (λ c. search needs)
     (λ c κs. search needs)
     (λ c. search needs)
-    (λ c. start-within _ _ (c .before .before .before .read-header .ensures .0) _ _ _ _ (c .before .header2 .given .1))
-    (λ c. start-within _ _ (c .before .before .before .read-header .ensures .0) _ _ _ _ (c .before .header2 .given .1))
+    (λ c. let w = start-within _ _ (c .before .before .before .read-header .ensures .0) _ _ _ _ (c .before .header2 .given .1) in omega arith)
+    (λ c. let w = start-within _ _ (c .before .before .before .read-header .ensures .0) _ _ _ _ (c .before .header2 .given .1) in omega arith)
     (λ c. search needs)
     (λ c κs. search needs)
     (λ c. header-refused _ _ (c .before .before .before .before .before .read-header .ensures .0) _ _ (c .before .before .before .header .given .1) (c .before .new-floor .ensures))

@@ -1,32 +1,23 @@
 use borrow.Author.Needs.{needs}
-use Prim.Native.Nat.{_≤_, _-_}
 use native.Mathlib.Omega.{arith}
-use native.Mathlib.Numerals.{add-one}
-use mathlib.Core.Path.{_≡_, refl}
-use Rattle.requests.specs.Requests.{allYes}
+use mathlib.Core.Path.{sym, _∙_}
+use Rattle.requests.proofs.Past.{heard-past, unheard-past}
 use Rattle.requests.proofs.all_yes.Statement.{statement}
 use Rattle.requests.proofs.all_yes.Tie as tie
 
-abbrev Inv-loop : tie.InvT-loop
-Inv-loop n w ok₀ k₀ ok k = (k ≤ n) × (ok ≡ allYes w k)
-
-abbrev μ-loop : tie.MeasureT-loop
-μ-loop n w ok₀ k₀ ok k = n - k
-
 pub all-yes-spec : {M : Type 1} → statement M
-unfolding allYes
 all-yes-spec =
     tie.close
     (tie.spec
-    Inv-loop
-    μ-loop
-    (λ c. (search needs, refl))
-    (λ c κs. omega arith)
-    (λ c. omega arith)
-    (λ c. omega arith)
-    (λ c. omega arith)
-    (λ c κs. omega arith)
-    (λ c. omega arith)
-    (λ c. omega arith)
-    (λ c. (omega arith, rw add-one (cc)))
-    (λ c. let e : c .before .loop .k ≡ c .before .before .args .n = omega arith in cc))
+    (λ c κs. search needs)
+    (λ c. search needs)
+    (λ c κs. search needs)
+    (λ c κs. search needs)
+    (λ c.
+    let s = c .before .before .before .before in
+    heard-past (s .args .q) _ (s .good .0) (s .args .n) (omega arith) (λ e. c .if2 .taken (c .before .before .count-below .ensures ∙ e ∙ sym (c .before .count-below2 .ensures))))
+    (λ c κs. search needs)
+    (λ c.
+    let s = c .before .before .before .before .before in
+    c .yes-below2 .ensures
+    ∙ unheard-past (s .args .q) _ (s .good .0) (s .args .n) (omega arith) (sym (c .before .before .before .count-below .ensures) ∙ c .before .if2 .left ∙ c .before .before .count-below2 .ensures)))

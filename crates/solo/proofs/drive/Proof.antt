@@ -35,7 +35,7 @@ written x =
 
 -- and run behind the begin
 ran : (x : tie.After-drive) → x .drive .result ≡ runOf End (entry x .args .f) (beginOf (entry x .args .f) (entry x .args .s) (entry x .args .v)) (exchangesOf (entry x .args .f))
-ran x = plan-run _ _ _ _ _ _ _ (entry x .pre .0) (entry x .pre .1) (x .before .before .encode .ensures) (written (phases x)) (x .drive .ensures)
+ran x = plan-run _ _ _ _ _ _ _ (entry x .pre .0) (entry x .pre .1) (x .before .before .encode .ensures) (written (phases x)) (x .drive .ensures .0)
 
 pub drive-spec : {M : Type 1} → statement M
 drive-spec =

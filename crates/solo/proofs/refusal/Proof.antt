@@ -1,7 +1,7 @@
 use borrow.Author.Needs.{needs}
 use mathlib.Core.Path.{refl}
 use Rattle.base.proofs.Choices.{on-true, on-false}
-use Rattle.base.proofs.Tests.{tests, picks}
+use Rattle.base.proofs.Tests.{tests}
 use Rattle.solo.specs.Solo.{frontRefusal}
 use Rattle.solo.proofs.refusal.Statement.{statement}
 use Rattle.solo.proofs.refusal.Tie as tie
@@ -15,12 +15,12 @@ refusal-spec =
     (λ c. search needs)
     (λ c. search needs)
     (λ c κs. search needs)
-    (λ c. on-false _ (search tests) (on-true _ (search tests) refl))
     (λ c κs. search needs)
+    (λ c κs. search needs)
+    (λ c. on-false _ (search tests) (on-true _ (search tests) refl))
     (λ c. on-false _ (search tests) (on-false _ (search tests) (on-true _ (search tests) refl)))
     (λ c. on-false _ (search tests) (on-false _ (search tests) (on-false _ (search tests) (on-true _ (search tests) refl))))
     (λ c. on-false _ (search tests) (on-false _ (search tests) (on-false _ (search tests) (on-false _ (search tests) (on-true _ (search tests) refl)))))
     (λ c. on-false _ (search tests) (on-false _ (search tests) (on-false _ (search tests) (on-false _ (search tests) (on-false _ (search tests) (on-true _ (search tests) refl))))))
-    (λ c κs. search needs)
-    (λ c. on-false _ (search tests) (on-false _ (search tests) (on-false _ (search tests) (search picks))))
-    (λ c. on-false _ (search tests) (on-false _ (search tests) (on-false _ (search tests) (on-false _ (search tests) (search picks))))))
+    (λ c. on-false _ (search tests) (on-false _ (search tests) (on-false _ (search tests) (on-false _ (search tests) (on-false _ (search tests) (on-false _ (search tests) (on-true _ (search tests) refl)))))))
+    (λ c. on-false _ (search tests) (on-false _ (search tests) (on-false _ (search tests) (on-false _ (search tests) (on-false _ (search tests) (on-false _ (search tests) (on-false _ (search tests) (refl)))))))))

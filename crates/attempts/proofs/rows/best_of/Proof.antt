@@ -21,7 +21,7 @@ best-of-spec =
     Inv-loop
     μ-loop
     (λ c. (search needs, refl))
-    (λ c κs. omega arith)
+    (λ c κs. search needs)
     (λ c. omega arith)
     (λ c. omega arith)
     (λ c. omega arith)

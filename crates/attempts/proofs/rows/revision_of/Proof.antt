@@ -1,16 +1,17 @@
 use borrow.Author.Needs.{needs}
-use mathlib.Core.Path.{refl}
-use Rattle.base.proofs.Choices.{on-true, on-false}
-use Rattle.base.proofs.Tests.{tests}
-use Rattle.attempts.specs.Rows.{revisionOf, revisionFrom}
+use native.Mathlib.Omega.{arith}
+use mathlib.Core.Path.{_∙_}
+use Rattle.attempts.proofs.Past.{revision-past}
 use Rattle.attempts.proofs.rows.revision_of.Statement.{statement}
 use Rattle.attempts.proofs.rows.revision_of.Tie as tie
 
 pub revision-of-spec : {M : Type 1} → statement M
-unfolding revisionOf revisionFrom
 revision-of-spec =
     tie.close
     (tie.spec
     (λ c κs. search needs)
-    (λ c. rw (← c .before .before .best-of .ensures) (on-true _ (search tests) (refl)))
-    (λ c. rw (← c .before .before .best-of .ensures) (on-false _ (search tests) (refl))))
+    (λ c. search needs)
+    (λ c κs. search needs)
+    (λ c.
+    let s = c .before .before in
+    c .revision-below2 .ensures ∙ revision-past (s .args .w) _ (s .good .0) (s .args .n) (omega arith)))

@@ -1,4 +1,5 @@
 use borrow.Author.Needs.{needs}
+use Rattle.attempts.proofs.Past.{none-answered}
 use Rattle.attempts.proofs.rows.serve_read.Statement.{statement}
 use Rattle.attempts.proofs.rows.serve_read.Tie as tie
 
@@ -10,4 +11,7 @@ serve-read-spec =
     (λ c κs. search needs)
     (λ c. search needs)
     (λ c. search needs)
-    (λ c. rw (c .served .ensures, c .before .before .before .rmw-read .ensures)))
+    (λ c. rw (c .before .served .ensures, c .before .before .before .before .rmw-read .ensures))
+    (λ c.
+    let s = c .before .before .before .before .before in
+    rw (c .before .served .ensures, c .before .before .before .before .rmw-read .ensures, none-answered (s .args .w) _ (s .good .0) (s .args .b) _ (c .if1 .left))))

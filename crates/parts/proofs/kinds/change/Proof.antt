@@ -11,7 +11,8 @@ unfolding changeIn
 change-spec =
     tie.close
     (tie.spec
+    (λ c. on-false _ (search tests) refl)
     (λ c κs. search needs)
-    (λ c. rw (← c .before .refusal .ensures) (on-false _ (search tests) refl))
-    (λ c κs. (c .before .before .pre, sym (c .before .refusal .ensures) ∙ c .if1 .left))
-    (λ c. rw (← c .before .before .refusal .ensures) (on-true _ (search tests) (c .effect .ensures))))
+    (λ c. on-true _ (search tests) (rw (← c .before .refusal .ensures) (on-false _ (search tests) refl)))
+    (λ c κs. (c .before .before .if1 .left, sym (c .before .refusal .ensures) ∙ c .if2 .left))
+    (λ c. on-true _ (search tests) (rw (← c .before .before .refusal .ensures) (on-true _ (search tests) (c .effect .ensures)))))

@@ -1,5 +1,5 @@
 use borrow.Author.Needs.{needs}
-use Rattle.parts.proofs.EffectNeeds.{begin-needs, serve-needs, deliver-needs}
+use Rattle.parts.proofs.EffectNeeds.{begin-needs, deliver-needs}
 use Rattle.parts.proofs.kinds.effect.Statement.{statement}
 use Rattle.parts.proofs.kinds.effect.Tie as tie
 
@@ -8,11 +8,11 @@ effect-spec =
     tie.close
     (tie.spec
     (λ c. search needs)
-    (λ c κs. begin-needs _ _ (c .before .before .before .pre .0) (c .before .before .before .pre .1) _ _ _ (c .before .c .given .1))
+    (λ c κs. begin-needs _ _ (c .before .before .before .pre .1) _ _ _ (c .before .c .given .1))
     (λ c. search needs)
-    (λ c κs. serve-needs _ _ (c .before .before .before .pre .0) (c .before .before .before .pre .1) _ _ _ (c .before .c2 .given .1))
+    (λ c κs. search needs)
     (λ c. search needs)
-    (λ c κs. deliver-needs _ _ (c .before .before .before .pre .0) (c .before .before .before .pre .1) _ _ _ (c .before .c3 .given .1))
+    (λ c κs. deliver-needs _ _ (c .before .before .before .pre .1) (c .before .before .before .pre .0) _ _ _ (c .before .c3 .given .1))
     (λ c. search needs)
     (λ c κs. search needs)
     (λ c. search needs)

@@ -1,0 +1,168 @@
+-- The chain from a box record in C to the floor: the C call on a register's bytes, and the accepted serve that does the same.
+use Prim.Native.Nat.{ℕ, suc, _<_}
+use native.Mathlib.Omega.{arith}
+use mathlib.Core.Path.{_≡_, refl, sym, ap, subst, _∙_}
+use mathlib.Core.Bool.{Bool, true, false}
+use mathlib.Core.List.{List, []}
+use lib.ListN.{length, getD, set}
+use lib.Seq.{getD-set-same}
+use Rattle.base.specs.Choice.{if_then_else_}
+use Rattle.base.specs.Bytes.{Bytes}
+use Rattle.base.specs.Records.{AllRecords}
+use Rattle.base.proofs.Choices.{on-true, on-false}
+use Rattle.register.specs.Register.{rmwRead, rmwWrite}
+use Rattle.register.specs.declared.Register.{Register}
+use Rattle.register.specs.declared.StorageBox.{StorageBox}
+use Rattle.register.specs.declared.ReadDone.{ReadDone}
+use Rattle.register.specs.declared.WriteDone.{WriteDone}
+use Rattle.register.proofs.RegisterLaws.{write-refused, write-answers}
+use Rattle.firmware.specs.Firmware.{encode, decode, replyOf, readAnswer, recordAfterRead, replyAfterRead, writeAnswer, recordAfterWrite}
+use Rattle.firmware.proofs.BoxRecordLaws.{decode-encode, encode-length, encode-bytes}
+use Rattle.firmware.proofs.CallLaws.{read-0, read-record, read-reply, write-0, write-100, write-record, write-kept}
+use Rattle.requests.specs.Requests.{slot0, slotAt}
+use Rattle.requests.specs.declared.Phase.{Phase}
+use Rattle.requests.specs.declared.Phase.the-variants.{Read, Write}
+use Rattle.requests.specs.declared.Slot.{Slot}
+use Rattle.requests.proofs.Standings.{waits-means}
+use Rattle.commands.specs.Outcomes.{isRefused}
+use Rattle.commands.specs.declared.Command.{Command}
+use Rattle.commands.specs.declared.Command.the-variants.{Serve}
+use Rattle.commands.specs.declared.Outcome.the-variants as said
+use Rattle.attempts.specs.Rows.{answer0, answerOf, requestsOf, rowServed, registerServed}
+use Rattle.attempts.specs.declared.Answer.{Answer}
+use Rattle.attempts.specs.declared.Row.{Row}
+use Rattle.floor.specs.Floors.{boxAt, rowAt}
+use Rattle.floor.specs.Step.{stepOf}
+use Rattle.floor.specs.Runs.{floorAt, saidAt}
+use Rattle.floor.specs.Claims.{Sound, CanServe, ServedBy}
+use Rattle.floor.specs.declared.Floor.{Floor}
+use Rattle.floor.specs.declared.Stepped.{Stepped}
+use Rattle.floor.proofs.StepCases.{StepCase, turned, served, step-case}
+use Rattle.floor.proofs.Keeps.{new-sound}
+use Rattle.base.proofs.Cases.{clash}
+use Rattle.agreement.specs.Words.{commandAt}
+use Rattle.agreement.specs.Demand.{firstFloor}
+use Rattle.agreement.specs.Chain.{bytesAt, answerAt, ReadInC, WriteInC, InC, ServedInC, Chain}
+use Rattle.agreement.proofs.History.{isIssued}
+use Rattle.agreement.proofs.Reach.{New, new-floor}
+use Rattle.agreement.proofs.Positions.{reached-at, means-at}
+use Rattle.agreement.proofs.Safety.{served-at}
+use Rattle.agreement.proofs.Standing.{sound-at}
+use Rattle.agreement.proofs.Widths.{FloorFits, fits-at, new-fits}
+
+-- a call on the 12 bytes of a register does what the routine by value does to it
+module _ (x : Register) (r : ℕ) (n : ¬ (r ≡ 0)) where
+  module _ (p : List ℕ) (h : length p ≡ 8) where
+    read-returns : 0 ≡ readAnswer (encode x) r p
+    read-returns = read-0 (encode x) r p (encode-length x) h n
+
+    read-changes : recordAfterRead (encode x) r p ≡ encode (rmwRead x r .register)
+    read-changes = sym (read-record (encode x) r p read-returns) ∙ ap (λ (y : Register). encode (rmwRead y r .register)) (decode-encode x)
+
+    read-answers : replyAfterRead (encode x) r p ≡ replyOf (rmwRead x r .rank) (rmwRead x r .value)
+    read-answers =
+        sym (read-reply (encode x) r p read-returns)
+        ∙ ap (λ (y : Register). replyOf (rmwRead y r .rank) (rmwRead y r .value)) (decode-encode x)
+
+  module _ (v : ℕ) (m : ¬ (v ≡ 0)) where
+    abbrev done : WriteDone
+    done = rmwWrite x r v
+
+    same : rmwWrite (decode (encode x)) r v ≡ done
+    same = ap (λ (y : Register). rmwWrite y r v) (decode-encode x)
+
+    record Called : Type 0 where
+      returns : writeAnswer (encode x) r v ≡ (if done .taken then 0 else 100)
+      changes : recordAfterWrite (encode x) r v ≡ encode (done .register)
+
+    called : (t : Bool) → done .taken ≡ t → Called
+    called true t =
+        let e = write-0 (encode x) r v (encode-length x) n m (ap (λ (y : WriteDone). y .taken) same ∙ t) in
+        record {
+          returns = sym e ∙ on-true _ t refl;
+          changes = sym (write-record (encode x) r v e) ∙ ap (λ (y : WriteDone). encode (y .register)) same;
+        }
+    called false t =
+        let e = write-100 (encode x) r v (encode-length x) n m (ap (λ (y : WriteDone). y .taken) same ∙ t) in
+        record {
+          returns = sym e ∙ on-false _ t refl;
+          changes = sym (write-kept (encode x) r v 100 refl e) ∙ ap (λ (y : WriteDone). encode (y .register)) (sym (write-refused x r v (sym (write-answers x r v) ∙ t)));
+        }
+
+-- an accepted serve says served
+says-served : {f : Floor} {y : Stepped} (p : Phase) (a b : ℕ) → StepCase f (Serve p a b) y → isRefused (y .outcome) ≡ false → y .outcome ≡ said.Served a
+says-served p a b (turned k t) e = clash refl e
+says-served p a b (served z d) e = refl
+
+module _ (f : Floor) (l : List (List ℕ)) (new : New f) (z : Sound f) (a i : ℕ) (e : saidAt f l i ≡ said.Served a) where
+  abbrev g : Floor
+  g = floorAt f l i
+
+  abbrev w : Row
+  w = rowAt g a
+
+  abbrev x : ServedBy g (commandAt l i) (floorAt f l (suc i)) a
+  x = means-at f l new i (said.Served a) e
+
+  abbrev b : ℕ
+  b = x .box
+
+  abbrev held : Register
+  held = boxAt g b .register
+
+  rank-positive : ¬ (w .rank ≡ 0)
+  rank-positive q = omega (arith, reached-at f l new i .shows .rows a (x .may .used) .positive, q)
+
+  place : b < 9
+  place = omega (arith, x .may .box, sound-at f l new z i .box-most)
+
+  row-place : a < 64
+  row-place = omega (arith, x .may .used, sound-at f l new z i .rows-most)
+
+  call : (p : Phase) → x .phase ≡ p → InC f l p (w .rank) a b i
+  call Read q = λ reply h.
+      let s : boxAt (floorAt f l (suc i)) b .register ≡ rmwRead held (w .rank) .register =
+      ap (λ (y : StorageBox). y .register) (x .storage) ∙ ap (λ (p : Phase). registerServed p w held) q in
+      let y : answerAt f l a b (suc i) ≡ answerOf (rmwRead held (w .rank)) =
+      ap (λ (v : Row). getD (v .answers) b answer0) (x .row) ∙ ap (λ (p : Phase). getD (rowServed p w held b .answers) b answer0) q
+      ∙ getD-set-same (w .answers) b _ answer0 (omega (arith, place, reached-at f l new i .lengths .answers a row-place)) in
+      record {
+        returns = sym (read-returns held (w .rank) rank-positive reply h);
+        changes = read-changes held (w .rank) rank-positive reply h ∙ ap encode (sym s);
+        answers = read-answers held (w .rank) rank-positive reply h ∙ ap (λ (v : Answer). replyOf (v .rank) (v .value)) (sym y);
+      }
+  call Write q =
+      let s : boxAt (floorAt f l (suc i)) b .register ≡ rmwWrite held (w .rank) (w .written) .register =
+      ap (λ (y : StorageBox). y .register) (x .storage) ∙ ap (λ (p : Phase). registerServed p w held) q in
+      let y : slotAt (rowAt (floorAt f l (suc i)) a .write) b .ok ≡ rmwWrite held (w .rank) (w .written) .taken =
+      ap (λ (v : Row). slotAt (v .write) b .ok) (x .row) ∙ ap (λ (p : Phase). slotAt (rowServed p w held b .write) b .ok) q
+      ∙ ap (λ (v : Slot). v .ok) (getD-set-same (w .write .slots) b _ slot0 (omega (arith, place, reached-at f l new i .lengths .slots Write a row-place))) in
+      let waits = subst (λ (p : Phase). CanServe g p a b) q (x .may) .waits in
+      let issued = reached-at f l new i .shows .rows a (x .may .used) .writes .after-issue b (ap isIssued (waits-means (slotAt (w .write) b .stage) (w .write .heard) b waits .0)) in
+      let c = called held (w .rank) rank-positive (w .written) (λ u. omega (arith, issued, u)) _ refl in
+      record {
+        returns = c .returns ∙ ap (λ (t : Bool). if t then 0 else 100) (sym y);
+        changes = c .changes ∙ ap encode (sym s);
+      }
+
+  bytes : FloorFits f → (k : ℕ) → AllRecords l → Bytes (bytesAt f l b k)
+  bytes fits k y = encode-bytes _ (fits-at f l fits y k .boxes b)
+
+  served-in-c : FloorFits f → ServedInC f l (x .phase) a b i
+  served-in-c fits = record {
+    rank = w .rank;
+    served = served-at f l new i (w .rank) b (record { attempt = a; used = x .may .used; rank = refl; phase = x .phase; asked = x .command; accepted = e });
+    call = call (x .phase) refl;
+    bytes = λ y. (bytes fits i y, bytes fits (suc i) y);
+  }
+
+pub chain : Chain
+chain n m l p a b i c ok =
+    let f = firstFloor n m in
+    let new = new-floor n m in
+    let e = says-served p a b (subst (λ (d : Command). StepCase (floorAt f l i) d (stepOf (floorAt f l i) (getD l i []))) c (step-case (floorAt f l i) (getD l i []))) ok in
+    let x = means-at f l new i (said.Served a) e in
+    let q : Serve p a b ≡ Serve (x .phase) a (x .box) = sym c ∙ x .command in
+    let eb : x .box ≡ b = cc in
+    let ep : x .phase ≡ p = cc in
+    subst (λ (y : ℕ). ServedInC f l p a y i) eb (subst (λ (y : Phase). ServedInC f l y a (x .box) i) ep (served-in-c f l new (new-sound n m) a i e (new-fits n m)))

@@ -1,0 +1,129 @@
+-- On the floors that a list of records of bytes reaches, all numbers fit 32 bits.
+use Prim.Native.Nat.{ℕ, zero, suc, _<_, _^_}
+use native.Mathlib.Omega.{arith}
+use mathlib.Core.Path.{sym, subst}
+use mathlib.Core.List.{List, [], _∷_}
+use lib.ListN.{getD, replicate}
+use Rattle.base.specs.Bytes.{Bytes}
+use Rattle.base.specs.Records.{AllRecords}
+use Rattle.base.proofs.Choices.{by-test}
+use Rattle.base.proofs.Stores.{set-all, getD-same}
+use Rattle.register.specs.Register.{box0, rmwRead}
+use Rattle.register.specs.declared.Register.{Register}
+use Rattle.register.specs.declared.StorageBox.{StorageBox}
+use Rattle.firmware.specs.Claims.{Fits32}
+use Rattle.firmware.proofs.CallLaws.{read-fits, write-fits}
+use Rattle.requests.specs.declared.Phase.{Phase}
+use Rattle.requests.specs.declared.Phase.the-variants.{Read, Write}
+use Rattle.requests.specs.declared.Requests.{Requests}
+use Rattle.commands.specs.Commands.{commandOf}
+use Rattle.commands.specs.Claims.{Fielded}
+use Rattle.commands.specs.declared.Command.{Command}
+use Rattle.commands.specs.declared.Outcome.{Outcome}
+use Rattle.commands.proofs.Encodings.{decode-fielded}
+use Rattle.attempts.specs.Rows.{answer0, row0, unusedRow, newRow, rowServed, rowHeard, registerServed, revisionFrom, revisionOf, issued}
+use Rattle.attempts.specs.Claims.{Found, nothing, highest}
+use Rattle.attempts.specs.declared.Answer.{Answer}
+use Rattle.attempts.specs.declared.rows.Best.{Best}
+use Rattle.attempts.specs.declared.Row.{Row}
+use Rattle.attempts.proofs.Answers.{best-found}
+use Rattle.floor.specs.Floors.{boxAt, rowAt, emptyFloor, newFloorOf}
+use Rattle.floor.specs.Effects.{heardRow}
+use Rattle.floor.specs.Step.{stepOf}
+use Rattle.floor.specs.Runs.{floorAt}
+use Rattle.floor.specs.Claims.{RowMove, row-kept, row-begins, row-served, row-heard, row-issues, BoxMove, box-kept, box-serves, box-stops}
+use Rattle.floor.specs.declared.Floor.{Floor}
+use Rattle.floor.specs.declared.NewFloor.{NewFloor}
+use Rattle.floor.proofs.Moves.{apply-box, apply-row}
+
+pub record RowFits (w : Row) : Type 0 where
+  pub rank : w .rank < 2 ^ 32
+  pub offer : w .offer < 2 ^ 32
+  pub written : w .written < 2 ^ 32
+  pub answers : (j : ℕ) → (getD (w .answers) j answer0 .rank < 2 ^ 32) × (getD (w .answers) j answer0 .value < 2 ^ 32)
+
+pub record FloorFits (f : Floor) : Type 0 where
+  pub rows : (a : ℕ) → RowFits (rowAt f a)
+  pub boxes : (b : ℕ) → Fits32 (boxAt f b .register)
+
+AnswerFits : Answer → Type 0
+AnswerFits x = (x .rank < 2 ^ 32) × (x .value < 2 ^ 32)
+
+served-fits : (p : Phase) {w : Row} {x : Register} (b : ℕ) → RowFits w → Fits32 x → RowFits (rowServed p w x b)
+unfolding rmwRead AnswerFits
+served-fits Read {w} b h g = record {
+  rank = h .rank;
+  offer = h .offer;
+  written = h .written;
+  answers = set-all answer0 (λ _ (x : Answer). AnswerFits x) (w .answers) b _ (h .answers) (g .write, g .value);
+}
+served-fits Write b h g = record { rank = h .rank; offer = h .offer; written = h .written; answers = h .answers }
+
+heard-fits : (p : Phase) {w : Row} (b : ℕ) → RowFits w → RowFits (rowHeard p w b)
+heard-fits Read b h = record { rank = h .rank; offer = h .offer; written = h .written; answers = h .answers }
+heard-fits Write b h = record { rank = h .rank; offer = h .offer; written = h .written; answers = h .answers }
+
+found-fits : {l : List Answer} {m : Requests} {k : ℕ} {x : Best} → ((j : ℕ) → getD l j answer0 .value < 2 ^ 32) → Found l m k x → x .value < 2 ^ 32
+found-fits h (nothing z) = omega arith
+found-fits h (highest {b} p q r t) = h b
+
+revision-fits : (w : Row) (n : ℕ) → RowFits w → revisionOf w n < 2 ^ 32
+unfolding revisionOf revisionFrom
+revision-fits w n h =
+    by-test (λ (v : ℕ). v < 2 ^ 32) _ _ _ (λ _. h .offer) (λ _. found-fits (λ j. h .answers j .1) (best-found (w .answers) (w .read) n))
+
+served-register : (p : Phase) {w : Row} {x : Register} → RowFits w → Fits32 x → Fits32 (registerServed p w x)
+served-register Read {w} {x} h g = read-fits x (w .rank) g (h .rank)
+served-register Write {w} {x} h g = write-fits x (w .rank) g (h .rank) (w .written) (h .written)
+
+module _ {f : Floor} (h : FloorFits f) {c : Command} (k : Fielded c) (j : ℕ) where
+  row-fits : {o : Outcome} {w : Row} → RowMove f c j o w → RowFits w
+  unfolding newRow issued
+  row-fits row-kept = h .rows j
+  row-fits (row-begins e s _) =
+      let q = subst Fielded e k in
+      record { rank = omega (arith, q .0, q .1); offer = q .2; written = omega arith; answers = λ i. rw (getD-same 9 i answer0) (omega arith, omega arith) }
+  row-fits (row-served {p} {b} e d) = served-fits p b (h .rows j) (h .boxes b)
+  row-fits (row-heard {p} {b} e d) = heard-fits p b (h .rows j)
+  row-fits (row-issues {b} {v} e d r q t) =
+      let w = heard-fits Read b (h .rows j) in
+      record { rank = w .rank; offer = w .offer; written = subst (λ (u : ℕ). u < 2 ^ 32) (sym t) (revision-fits (heardRow f Read j b) (f .n) w); answers = w .answers }
+
+  box-fits : {o : Outcome} {x : StorageBox} → BoxMove f c j o x → Fits32 (x .register)
+  box-fits box-kept = h .boxes j
+  box-fits (box-serves {p} {a} e u s) = served-register p (h .rows a) (h .boxes j)
+  box-fits (box-stops e s) = h .boxes j
+
+step-fits : (f : Floor) (r : List ℕ) → Bytes r → FloorFits f → FloorFits (stepOf f r .floor)
+unfolding stepOf
+step-fits f r b h =
+    let k = decode-fielded r b in
+    record { rows = λ j. row-fits h k j (apply-row f (commandOf r) j); boxes = λ j. box-fits h k j (apply-box f (commandOf r) j) }
+
+record-bytes : (l : List (List ℕ)) → AllRecords l → (i : ℕ) → Bytes (getD l i [])
+record-bytes [] h i = tt
+record-bytes (r ∷ l) h zero = h .0 .bytes
+record-bytes (r ∷ l) h (suc i) = record-bytes l (h .1) i
+
+pub fits-at : (f : Floor) (l : List (List ℕ)) → FloorFits f → AllRecords l → (i : ℕ) → FloorFits (floorAt f l i)
+unfolding floorAt
+fits-at f l h y zero = h
+fits-at f l h y (suc i) = step-fits (floorAt f l i) (getD l i []) (record-bytes l y i) (fits-at f l h y i)
+
+-- a new floor: all is 0
+replicated : {A : Type 0} (P : A → Type 0) (k : ℕ) (x d : A) → P x → P d → (j : ℕ) → P (getD (replicate k x) j d)
+replicated P zero x d p q j = q
+replicated P (suc k) x d p q zero = p
+replicated P (suc k) x d p q (suc j) = replicated P k x d p q j
+
+empty-fits : (n m : ℕ) → FloorFits (emptyFloor n m)
+empty-fits n m = record {
+  rows = replicated RowFits 64 unusedRow row0
+      (record { rank = omega arith; offer = omega arith; written = omega arith; answers = λ j. rw (getD-same 9 j answer0) (omega arith, omega arith) })
+      (record { rank = omega arith; offer = omega arith; written = omega arith; answers = λ j. (omega arith, omega arith) });
+  boxes = λ b. rw (getD-same 9 b box0) (record { read = omega arith; write = omega arith; value = omega arith });
+}
+
+pub new-fits : (n m : ℕ) → FloorFits (newFloorOf n m .floor)
+unfolding newFloorOf
+new-fits n m = by-test (λ (x : NewFloor). FloorFits (x .floor)) _ _ _ (λ _. empty-fits n m) (λ _. empty-fits 1 1)

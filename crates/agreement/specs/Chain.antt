@@ -1,0 +1,62 @@
+-- The chain from a box record in C to the floor of demand 3, in one statement: on every floor that a list reaches, an accepted serve
+-- changes the box's record, written as its 12 bytes, as the C call changes them, and its answer is the C call's. The proof is `chain` in
+-- proofs/Chain.
+use Prim.Native.Nat.{ℕ, suc}
+use mathlib.Core.Path.{_≡_}
+use mathlib.Core.Bool.{false}
+use mathlib.Core.List.{List}
+use lib.ListN.{length, getD}
+use Rattle.base.specs.Choice.{if_then_else_}
+use Rattle.base.specs.Bytes.{Bytes}
+use Rattle.base.specs.Records.{AllRecords}
+use Rattle.firmware.specs.Firmware.{encode, replyOf, readAnswer, recordAfterRead, replyAfterRead, writeAnswer, recordAfterWrite}
+use Rattle.requests.specs.Requests.{slotAt}
+use Rattle.requests.specs.declared.Phase.{Phase}
+use Rattle.requests.specs.declared.Phase.the-variants.{Read, Write}
+use Rattle.commands.specs.Outcomes.{isRefused}
+use Rattle.commands.specs.declared.Command.the-variants.{Serve}
+use Rattle.attempts.specs.Rows.{answer0}
+use Rattle.attempts.specs.declared.Answer.{Answer}
+use Rattle.floor.specs.Floors.{boxAt, rowAt}
+use Rattle.floor.specs.Runs.{floorAt, saidAt}
+use Rattle.floor.specs.declared.Floor.{Floor}
+use Rattle.agreement.specs.Words.{commandAt, ServedAt}
+use Rattle.agreement.specs.Demand.{firstFloor}
+
+module _ (f : Floor) (l : List (List ℕ)) where
+  -- "a record of 12 bytes: read rank, write rank, value, each big-endian": that of the box b before the step at i
+  abbrev pub bytesAt : (b i : ℕ) → List ℕ
+  bytesAt b i = encode (boxAt (floorAt f l i) b .register)
+
+  -- what the attempt a was answered to its read at the box b, before the step at i
+  abbrev pub answerAt : (a b i : ℕ) → Answer
+  answerAt a b i = getD (rowAt (floorAt f l i) a .answers) b answer0
+
+  -- A read with the rank r, of any reply of 8 bytes: the call returns 0, leaves the box's next record, and fills the reply with the
+  -- answer that is then on the way.
+  pub record ReadInC (r a b i : ℕ) (reply : List ℕ) : Type 0 where
+    pub returns : readAnswer (bytesAt b i) r reply ≡ 0
+    pub changes : recordAfterRead (bytesAt b i) r reply ≡ bytesAt b (suc i)
+    pub answers : replyAfterRead (bytesAt b i) r reply ≡ replyOf (answerAt a b (suc i) .rank) (answerAt a b (suc i) .value)
+
+  -- A write with the rank r of the attempt's revision: the call leaves the box's next record, and returns 0 where the answer on the way
+  -- says "taken" and 100 where it does not.
+  pub record WriteInC (r a b i : ℕ) : Type 0 where
+    pub returns : writeAnswer (bytesAt b i) r (rowAt (floorAt f l i) a .written) ≡ (if slotAt (rowAt (floorAt f l (suc i)) a .write) b .ok then 0 else 100)
+    pub changes : recordAfterWrite (bytesAt b i) r (rowAt (floorAt f l i) a .written) ≡ bytesAt b (suc i)
+
+  abbrev pub InC : (phase : Phase) (r a b i : ℕ) → Type 0
+  InC Read r a b i = (reply : List ℕ) → length reply ≡ 8 → ReadInC r a b i reply
+  InC Write r a b i = WriteInC r a b i
+
+  -- the accepted serve at i, with the rank of its attempt
+  pub record ServedInC (phase : Phase) (a b i : ℕ) : Type 0 where
+    pub rank : ℕ
+    pub served : ServedAt f l rank b i
+    pub call : InC phase rank a b i
+    -- where the list's records are of 8 bytes each, the box's record before and after is 12 bytes
+    pub bytes : AllRecords l → Bytes (bytesAt b i) × Bytes (bytesAt b (suc i))
+
+abbrev pub Chain : Type 0
+Chain = (n m : ℕ) (l : List (List ℕ)) (phase : Phase) (a b i : ℕ) → commandAt l i ≡ Serve phase a b → isRefused (saidAt (firstFloor n m) l i) ≡ false
+    → ServedInC (firstFloor n m) l phase a b i

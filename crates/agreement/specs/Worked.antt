@@ -1,0 +1,51 @@
+-- Document 01's examples I and J in the words of demand 3, so that the claim is not about nothing. The proof is `worked` in proofs/Worked.
+use Prim.Native.Nat.{ℕ, _<_}
+use mathlib.Core.Path.{_≡_}
+use mathlib.Core.List.{List, [], _∷_}
+use lib.ListN.{length}
+use Rattle.requests.specs.declared.Phase.the-variants.{Read, Write}
+use Rattle.commands.specs.Commands.{encodeOf}
+use Rattle.commands.specs.declared.Command.the-variants.{Begin, Serve, Deliver, Stop}
+use Rattle.floor.specs.Floors.{boxAt}
+use Rattle.floor.specs.Runs.{floorLeft}
+use Rattle.floor.specs.declared.Floor.{Floor}
+use Rattle.solo.specs.Solo.{soloOf}
+use Rattle.agreement.specs.Words.{DecidesAt, OutrankedAt, IdleAt}
+use Rattle.agreement.specs.Demand.{firstFloor, DrivenAlone}
+
+-- "I: n = 3. Attempt 0 (rank 16, 7) has read at boxes 0 and 1. Attempt 1 (rank 17, 9) reads and writes at 1 and 2 and decides 9.
+-- Attempt 0's write is taken at 0, not at 1: it aborts. Its write at 2, served after that, is not taken." Behind it, two records
+-- that are refused: one of no kind, and a begin of the station that decided.
+abbrev pub exampleI : List (List ℕ)
+exampleI =
+    encodeOf (Begin 0 1 7) ∷ encodeOf (Serve Read 0 0) ∷ encodeOf (Deliver Read 0 0) ∷ encodeOf (Serve Read 0 1) ∷ encodeOf (Deliver Read 0 1)
+    ∷ encodeOf (Begin 1 1 9) ∷ encodeOf (Serve Read 1 1) ∷ encodeOf (Deliver Read 1 1) ∷ encodeOf (Serve Read 1 2) ∷ encodeOf (Deliver Read 1 2)
+    ∷ encodeOf (Serve Write 1 1) ∷ encodeOf (Deliver Write 1 1) ∷ encodeOf (Serve Write 1 2) ∷ encodeOf (Deliver Write 1 2)
+    ∷ encodeOf (Serve Write 0 0) ∷ encodeOf (Deliver Write 0 0) ∷ encodeOf (Serve Write 0 1) ∷ encodeOf (Deliver Write 0 1) ∷ encodeOf (Serve Write 0 2)
+    ∷ (9 ∷ 255 ∷ []) ∷ encodeOf (Begin 1 2 5) ∷ []
+
+-- "J: solo on a new floor of 5: 13 steps; with 2 stopped, 13"
+abbrev pub stops : List (List ℕ)
+stops = encodeOf (Stop 0) ∷ encodeOf (Stop 1) ∷ []
+
+abbrev pub three : Floor
+three = firstFloor 3 2
+
+abbrev pub five : Floor
+five = firstFloor 5 1
+
+-- the value that a box holds behind example I
+abbrev pub heldAt : (b : ℕ) → ℕ
+heldAt b = boxAt (floorLeft three exampleI) b .register .value
+
+pub record Worked : Type 0 where
+  -- I: a station decides 9, and a rank above that of attempt 0 was served before it aborted
+  pub decides : (s : ℕ) × DecidesAt three exampleI s 9 13
+  pub outranked : OutrankedAt three exampleI 17
+  -- J: with 2 of 5 boxes stopped, whatever revision station 0 offers
+  pub alone : (v : ℕ) → 0 < v → v < 4294967296 → DrivenAlone five stops 0 v (soloOf (floorLeft five stops) 0 v)
+  pub thirteen : (v : ℕ) → 0 < v → v < 4294967296 → soloOf (floorLeft five stops) 0 v .steps ≡ 13
+  -- behind I station 0 is idle after its abort, and two of three boxes hold another's revision; whatever it offers
+  pub idle-behind : IdleAt three exampleI 0 (length exampleI)
+  pub held-behind : (heldAt 0 ≡ 7) × (heldAt 1 ≡ 9) × (heldAt 2 ≡ 9)
+  pub alone-behind : (v : ℕ) → 0 < v → v < 4294967296 → DrivenAlone three exampleI 0 v (soloOf (floorLeft three exampleI) 0 v)

@@ -1,0 +1,20 @@
+use borrow.Author.Needs.{needs}
+use Rattle.parts.proofs.places.box_in.Statement.{statement}
+use Rattle.parts.proofs.places.box_in.Tie as tie
+
+pub box-in-spec : {M : Type 1} → statement M
+box-in-spec =
+    tie.close
+    (tie.spec
+    (λ c. search needs)
+    (λ c. search needs)
+    (λ c. search needs)
+    (λ c. search needs)
+    (λ c. search needs)
+    (λ c. search needs)
+    (λ c. rw (c .enum-told .given .1))
+    (λ c. rw (c .before .c .given .1))
+    (λ c. rw (c .before .c2 .given .1))
+    (λ c. rw (c .before .c3 .given .1))
+    (λ c. rw (c .enum-told2 .given .1))
+    (λ c. rw (c .enum-told3 .given .1)))

@@ -1,0 +1,62 @@
+// A begin on the parts that it looks at: its refusal, and its effect where it is accepted.
+ghost use mathlib.Core.Path.{_≡_};
+ghost use Prim.Native.Nat.{_<_};
+ghost use Rattle.parts.specs.Parts.{beginIn, begun};
+use crate::Changed;
+use crate::Parts;
+use attempts::State;
+use attempts::Station;
+use commands::Outcome;
+
+pub(crate) fn begin_refusal(x: Parts, s: u8, round: u16, v: u32) -> u8
+    ensures { λ r. ⌜ r ≡ beginIn x s round v ⌝ }
+{
+    let st = x.station;
+    let state = st.state;
+    let gone = attempts::gone(state);
+    let busy = attempts::busy(state);
+    if x.m <= s {
+        return 8;
+    }
+    if gone {
+        return 9;
+    }
+    if busy {
+        return 10;
+    }
+    if v == 0 {
+        return 11;
+    }
+    if round == 0 {
+        return 11;
+    }
+    if round <= st.last {
+        return 11;
+    }
+    if 64 <= x.used {
+        return 12;
+    }
+    0
+}
+
+pub(crate) fn begin(x: Parts, s: u8, round: u16, v: u32) -> Changed
+    requires { ⌜ x .used < 64 ⌝ }
+    ensures { λ r. ⌜ r ≡ begun x s round v ⌝ }
+{
+    let a = x.used;
+    let st = x.station;
+    let row = attempts::new_row(x.n, s, round, v);
+    let mut y = x;
+    y.used = a + 1;
+    y.row = row;
+    let station = Station {
+        state: State::Reading(a),
+        last: round,
+        decided: st.decided,
+    };
+    y.station = station;
+    Changed {
+        parts: y,
+        outcome: Outcome::Begun(a),
+    }
+}

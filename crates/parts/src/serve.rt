@@ -1,0 +1,48 @@
+// A serve on the parts that it looks at: its refusal, and its effect where it is accepted.
+ghost use mathlib.Core.Path.{_≡_};
+ghost use Rattle.parts.specs.Parts.{serveIn, served};
+use crate::Changed;
+use crate::Parts;
+use commands::Outcome;
+use register::StorageBox;
+use requests::Phase;
+
+pub(crate) fn serve_refusal(x: Parts, p: Phase, a: u8, b: u8) -> u8
+    ensures { λ r. ⌜ r ≡ serveIn x p a b ⌝ }
+{
+    let storage = x.storage;
+    let w = x.row;
+    let unknown = super::places::unknown(x.used, x.n, a, b);
+    if unknown {
+        return 8;
+    }
+    if storage.stopped {
+        return 13;
+    }
+    if !attempts::waits(w, p, b) {
+        return 14;
+    }
+    0
+}
+
+pub(crate) fn serve(x: Parts, p: Phase, a: u8, b: u8) -> Changed
+    ensures { λ r. ⌜ r ≡ served x p a b ⌝ }
+{
+    let old = x.storage;
+    let held = old.register;
+    let w = x.row;
+    let done = attempts::serve(w, held, p, b);
+    let row = done.row;
+    let after = done.register;
+    let mut y = x;
+    y.row = row;
+    let storage = StorageBox {
+        register: after,
+        stopped: old.stopped,
+    };
+    y.storage = storage;
+    Changed {
+        parts: y,
+        outcome: Outcome::Served(a),
+    }
+}
