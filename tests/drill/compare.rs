@@ -89,7 +89,7 @@ fn compare(program: &str, file: &[u8], number: u64, reached: &mut Coverage) -> R
         }
         Ok(parts) => {
             let played = reference::play(&parts);
-            claims(&played).map_err(|claim| format!("in the reference's own trace {claim}"))?;
+            claims(&played).map_err(|claim| format!("the reference's own trace breaks {claim}"))?;
             cover(&played, reached);
             reference::lines(&parts, &played)
         }
@@ -124,7 +124,7 @@ fn run(program: &str, file: &[u8], pieces: bool) -> Result<Vec<u8>, String> {
     Ok(output.stdout)
 }
 
-/// Demand 3's safety claims, read off the accepted steps and what they said.
+/// Demand 3's safety claims, read off the accepted steps and what they said. An error starts with the name of the claim.
 fn claims(played: &Played) -> Result<(), String> {
     let mut begun: Vec<(usize, u32, u32)> = Vec::new(); // station, rank, offered revision of each attempt
     let mut highest_served = 0;
@@ -133,23 +133,23 @@ fn claims(played: &Played) -> Result<(), String> {
         match (*step, *said) {
             (Step::Begin { station, round, revision }, Said::Begun(number)) => {
                 if number != begun.len() {
-                    return Err(format!("attempt {number} is begun out of order"));
+                    return Err(format!("the order of attempts: {number} is begun out of order"));
                 }
                 begun.push((station, round * 16 + station as u32, revision));
             }
             (Step::Serve { attempt, .. }, Said::Served(_)) => highest_served = highest_served.max(begun[attempt].1),
             (Step::Deliver { phase: Phase::Write, attempt, .. }, Said::Decided(revision)) => {
                 if let Some((_, other)) = decided.iter().find(|(_, v)| *v != revision) {
-                    return Err(format!("{other} and {revision} are both decided"));
+                    return Err(format!("agreement: {other} and {revision} are both decided"));
                 }
                 if !begun.iter().any(|(_, _, offer)| *offer == revision) {
-                    return Err(format!("{revision} is decided and was not offered before"));
+                    return Err(format!("validity: {revision} is decided and was not offered before"));
                 }
                 decided.push((begun[attempt].0, revision));
             }
             (Step::Deliver { phase: Phase::Write, attempt, .. }, Said::Aborted(_)) => {
                 if highest_served <= begun[attempt].1 {
-                    return Err(format!("attempt {attempt} aborts, and no higher rank was served before"));
+                    return Err(format!("abort: attempt {attempt} aborts, and no higher rank was served before"));
                 }
             }
             _ => {}
@@ -158,7 +158,7 @@ fn claims(played: &Played) -> Result<(), String> {
     for (number, s) in played.floor.stations.iter().enumerate() {
         let said = decided.iter().find(|(station, _)| *station == number).map(|(_, v)| *v);
         if s.decided != said {
-            return Err(format!("station {number} shows {:?} and {said:?} was said", s.decided));
+            return Err(format!("shown: station {number} shows {:?} and {said:?} was said", s.decided));
         }
     }
     Ok(())

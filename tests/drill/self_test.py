@@ -1,5 +1,12 @@
-"""self_test.py SOURCES OUT SEED: puts each fault of faults.txt into a copy of reference.rs. As a program, the faulty reference has to
-be told from the right one; where the fault breaks a safety claim, the claims have to be missed in its own trace too."""
+"""self_test.py SOURCES OUT SEED [full]: puts each fault of faults.txt into a copy of reference.rs, as many at a time as there are
+processors.
+
+The comparison, which uses the right reference, has to tell the faulty program from it, by what it prints or by how it ends. Where the
+fault names a claim of demand 3 that it breaks, a comparison that uses the faulty reference has to find that claim broken in its own
+trace. `full` looks for a broken claim with the other faults too, wants none, and prints a line for each fault.
+"""
+import concurrent.futures
+import os
 import pathlib
 import re
 import shutil
@@ -7,36 +14,53 @@ import subprocess
 import sys
 
 sources, out, seed = pathlib.Path(sys.argv[1]), pathlib.Path(sys.argv[2]), sys.argv[3]
+full = sys.argv[4:] == ["full"]
 right = (sources / "reference.rs").read_text()
-faults = re.findall(r"^# (.*)\nold: (.*)\nnew: (.*)$", (sources / "faults.txt").read_text(), re.M)
-faulty = out / "faulty"
-missed, broken = [], []
+text = (sources / "faults.txt").read_text()
+faults = re.findall(r"^# (.*)\nold: (.*)\nnew: (.*)\n(?:breaks: (\w+)\n)?", text + "\n", re.M)
+assert len(faults) == len(re.findall(r"^old: ", text, re.M)), "faults.txt: an entry is not as its head says"
+named = {claim for _, _, _, claim in faults if claim}
+assert named == {"agreement", "validity", "abort", "shown"}, f"faults.txt breaks {sorted(named)}, which is not each claim"
 
 
-def rustc(source, program):
-    subprocess.run(["rustc", "--edition", "2021", "-A", "warnings", "-C", "opt-level=1", "-o", program, source], check=True)
+def rustc(folder, name, level):
+    words = ["rustc", "--edition", "2021", "-A", "warnings", "-C", f"opt-level={level}", "-o", folder / name, folder / f"{name}.rs"]
+    subprocess.run(words, check=True)
 
 
-def notices(compare, program):
-    done = subprocess.run([compare, program, "4000", seed, faulty / "left"], capture_output=True, text=True)
-    return done.returncode == 1, done.stdout
+def first_difference(compare, program, left):
+    done = subprocess.run([compare, program, "4000", seed, left], capture_output=True, text=True, timeout=300)
+    return done.stdout if done.returncode == 1 else ""
 
 
-for why, old, new in faults:
+def broken_claim(folder):
+    """The claim that a comparison on the faulty reference finds broken, if any."""
+    rustc(folder, "compare", 1 if full else 0)
+    said = first_difference(folder / "compare", folder / "reference", folder / "left")
+    found = re.search(r"the reference's own trace breaks (\w+):", said)
+    return found[1] if found else ""
+
+
+def try_fault(number):
+    """Whether the fault is noticed, and the claim that it breaks; that is looked for where the fault names one."""
+    _, old, new, claim = faults[number]
     assert right.count(old) == 1, f"faults.txt: `{old}` stands not once in reference.rs"
-    shutil.rmtree(faulty, ignore_errors=True)
-    shutil.copytree(sources, faulty)
-    (faulty / "reference.rs").write_text(right.replace(old, new))
-    rustc(faulty / "reference.rs", faulty / "reference")
-    noticed, _ = notices(out / "compare", faulty / "reference")
-    if not noticed:
-        missed.append(why)
-    rustc(faulty / "compare.rs", faulty / "compare")
-    _, said = notices(faulty / "compare", faulty / "reference")
-    claim = "the reference's own trace" in said
-    if claim:
-        broken.append(why)
-    print(f"{'noticed' if noticed else 'MISSED':8} {'claim broken' if claim else '':13} {why}", flush=True)
+    folder = out / "faulty" / str(number)
+    shutil.copytree(sources, folder)
+    (folder / "reference.rs").write_text(right.replace(old, new))
+    rustc(folder, "reference", 1 if full else 0)
+    said = first_difference(out / "compare", folder / "reference", folder / "left")
+    noticed = re.search(r": expected\n.*^printed\n|: the program ended with", said, re.M | re.S)
+    return bool(noticed), broken_claim(folder) if claim or full else ""
 
-print(f"drill self-test: {len(faults) - len(missed)} of {len(faults)} faults noticed, {len(broken)} of them break a claim")
-sys.exit(1 if missed or not broken else 0)
+
+shutil.rmtree(out / "faulty", ignore_errors=True)
+wrong = 0
+with concurrent.futures.ThreadPoolExecutor(os.cpu_count()) as pool:
+    for (why, _, _, claim), (noticed, broken) in zip(faults, pool.map(try_fault, range(len(faults)))):
+        right_so = noticed and broken == claim
+        wrong += not right_so
+        if full or not right_so:
+            print(f"{'noticed' if noticed else 'MISSED'}, breaks {broken or 'no claim'}, should break {claim or 'none'}: {why}", flush=True)
+print(f"drill self-test: {len(faults)} faults, {wrong} not as faults.txt has them" if wrong else f"drill self-test: {len(faults)} faults noticed")
+sys.exit(1 if wrong else 0)
