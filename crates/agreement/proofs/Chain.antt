@@ -4,7 +4,7 @@ use native.Mathlib.Omega.{arith}
 use mathlib.Core.Path.{_≡_, refl, sym, ap, subst, _∙_}
 use mathlib.Core.Bool.{Bool, true, false}
 use mathlib.Core.List.{List, []}
-use lib.ListN.{length, getD, set}
+use lib.ListN.{length, getD}
 use lib.Seq.{getD-set-same}
 use Rattle.base.specs.Choice.{if_then_else_}
 use Rattle.base.specs.Bytes.{Bytes}
@@ -13,7 +13,6 @@ use Rattle.base.proofs.Choices.{on-true, on-false}
 use Rattle.register.specs.Register.{rmwRead, rmwWrite}
 use Rattle.register.specs.declared.Register.{Register}
 use Rattle.register.specs.declared.StorageBox.{StorageBox}
-use Rattle.register.specs.declared.ReadDone.{ReadDone}
 use Rattle.register.specs.declared.WriteDone.{WriteDone}
 use Rattle.register.proofs.RegisterLaws.{write-refused, write-answers}
 use Rattle.firmware.specs.Firmware.{encode, decode, replyOf, readAnswer, recordAfterRead, replyAfterRead, writeAnswer, recordAfterWrite}
@@ -28,7 +27,7 @@ use Rattle.commands.specs.Outcomes.{isRefused}
 use Rattle.commands.specs.declared.Command.{Command}
 use Rattle.commands.specs.declared.Command.the-variants.{Serve}
 use Rattle.commands.specs.declared.Outcome.the-variants as said
-use Rattle.attempts.specs.Rows.{answer0, answerOf, requestsOf, rowServed, registerServed}
+use Rattle.attempts.specs.Rows.{answer0, answerOf, rowServed, registerServed}
 use Rattle.attempts.specs.declared.Answer.{Answer}
 use Rattle.attempts.specs.declared.Row.{Row}
 use Rattle.floor.specs.Floors.{boxAt, rowAt}
@@ -42,7 +41,7 @@ use Rattle.floor.proofs.Keeps.{new-sound}
 use Rattle.base.proofs.Cases.{clash}
 use Rattle.agreement.specs.Words.{commandAt}
 use Rattle.agreement.specs.Demand.{firstFloor}
-use Rattle.agreement.specs.Chain.{bytesAt, answerAt, ReadInC, WriteInC, InC, ServedInC, Chain}
+use Rattle.agreement.specs.Chain.{bytesAt, answerAt, InC, ServedInC, Chain}
 use Rattle.agreement.proofs.History.{isIssued}
 use Rattle.agreement.proofs.Reach.{New, new-floor}
 use Rattle.agreement.proofs.Positions.{reached-at, means-at}

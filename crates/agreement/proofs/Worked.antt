@@ -4,7 +4,6 @@ use native.Mathlib.Omega.{arith}
 use mathlib.Core.Path.{_≡_, refl, sym, ap, _∙_}
 use mathlib.Core.Logic.{_⊎_, inl, inr}
 use mathlib.Core.Bool.{Bool, true, false}
-use mathlib.Core.List.{List, [], _∷_}
 use lib.ListN.{length}
 use lib.Dec.{eqb, leb}
 use lib.Count.{ones, onesIn}
@@ -19,18 +18,17 @@ use Rattle.register.specs.Register.{rmwRead, rmwWrite, takes}
 use Rattle.requests.specs.Requests.{standing, waitingBelow, atQuorum, stillYes, allYes}
 use Rattle.requests.specs.declared.Phase.the-variants.{Read, Write}
 use Rattle.floor.specs.Sound.{stationsBelow, soundOf}
-use Rattle.floor.specs.Floors.{boxAt, newFloorOf}
-use Rattle.commands.specs.Commands.{allZero, spared, commandOf, encodeOf}
+use Rattle.floor.specs.Floors.{newFloorOf}
+use Rattle.commands.specs.Commands.{allZero, spared, commandOf}
 use Rattle.attempts.specs.Rows.{newRow, better, bestOf, revisionFrom, revisionOf, issued}
 use Rattle.floor.specs.Refusals.{beginRefusal, serveRefusal, deliverRefusal, stopRefusal}
 use Rattle.floor.specs.Effects.{writeEndedOn, deliveredOn}
 use Rattle.floor.specs.Step.{playOf, applyOf, stepOf}
-use Rattle.floor.specs.declared.Floor.{Floor}
-use Rattle.commands.specs.declared.Command.the-variants.{Begin, Serve, Deliver, Stop}
+use Rattle.commands.specs.declared.Command.the-variants.{Begin, Serve, Deliver}
 use Rattle.commands.specs.declared.Outcome.{Outcome}
 use Rattle.commands.specs.declared.Outcome.the-variants as said
 use Rattle.solo.specs.Solo.{soloOf}
-use Rattle.agreement.specs.Words.{Before, commandAt, Attempt, attemptRank, Named, ServedAt, DecidesAt, AbortsAt, OutrankedAt, shownAt, Answering, IdleAt, attemptsBefore, RoundLeft}
+use Rattle.agreement.specs.Words.{commandAt, Attempt, ServedAt, DecidesAt, AbortsAt, OutrankedAt, shownAt, IdleAt, attemptsBefore}
 use Rattle.floor.specs.Runs.{floorAt, floorLeft, saidAt}
 use Rattle.agreement.specs.Demand.{DrivenAlone}
 use Rattle.agreement.specs.Worked.{exampleI, stops, three, five, heldAt, Worked}
@@ -247,6 +245,7 @@ alone-behind v p q =
 pub worked : Worked
 worked = record {
   decides = decides;
+  served = rank-17;
   outranked = outranked;
   alone = alone;
   thirteen = thirteen;

@@ -10,7 +10,7 @@ use Rattle.floor.specs.Floors.{boxAt}
 use Rattle.floor.specs.Runs.{floorLeft}
 use Rattle.floor.specs.declared.Floor.{Floor}
 use Rattle.solo.specs.Solo.{soloOf}
-use Rattle.agreement.specs.Words.{DecidesAt, OutrankedAt, IdleAt}
+use Rattle.agreement.specs.Words.{ServedAt, DecidesAt, OutrankedAt, IdleAt}
 use Rattle.agreement.specs.Demand.{firstFloor, DrivenAlone}
 
 -- "I: n = 3. Attempt 0 (rank 16, 7) has read at boxes 0 and 1. Attempt 1 (rank 17, 9) reads and writes at 1 and 2 and decides 9.
@@ -39,8 +39,9 @@ abbrev pub heldAt : (b : ℕ) → ℕ
 heldAt b = boxAt (floorLeft three exampleI) b .register .value
 
 pub record Worked : Type 0 where
-  -- I: a station decides 9, and a rank above that of attempt 0 was served before it aborted
+  -- I: a station decides 9; rank 17 is served at box 1, and before attempt 0 aborted a rank above its own was
   pub decides : (s : ℕ) × DecidesAt three exampleI s 9 13
+  pub served : ServedAt three exampleI 17 1 6
   pub outranked : OutrankedAt three exampleI 17
   -- J: with 2 of 5 boxes stopped, whatever revision station 0 offers
   pub alone : (v : ℕ) → 0 < v → v < 4294967296 → DrivenAlone five stops 0 v (soloOf (floorLeft five stops) 0 v)

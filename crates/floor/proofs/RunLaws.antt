@@ -15,23 +15,19 @@ use Rattle.commands.specs.Commands.{commandOf}
 use Rattle.commands.specs.Outcomes.{isRefused, isEnd}
 use Rattle.commands.specs.declared.Command.{Command}
 use Rattle.commands.specs.declared.Outcome.{Outcome}
-use Rattle.commands.specs.declared.Outcome.the-variants.{Refused}
 use Rattle.attempts.specs.Rows.{row0}
 use Rattle.parts.specs.Parts.{placeIn, attemptIn, boxIn, stationIn, changeIn}
 use Rattle.parts.specs.declared.Parts.{Parts}
 use Rattle.parts.specs.declared.Changed.{Changed}
 use Rattle.floor.specs.Step.{applyOf}
-use Rattle.floor.specs.Sound.{soundOf}
 use Rattle.floor.specs.Runs.{stopsAt, ranBy, runFrom}
 use Rattle.floor.specs.Claims.{Sound}
 use Rattle.floor.specs.declared.Floor.{Floor}
-use Rattle.floor.specs.declared.Stepped.{Stepped}
 use Rattle.floor.specs.declared.Until.{Until}
 use Rattle.floor.specs.declared.Until.the-variants.{Refusal, End}
 use Rattle.floor.specs.declared.Ran.{Ran}
 use Rattle.floor.proofs.Joins.{partsAt, rowPlace, boxPlace, stationPlace, look, put, Joined, change-join}
 use Rattle.floor.proofs.Keeps.{refused-same, apply-keeps}
-use Rattle.floor.proofs.StepLaws.{apply-unsound}
 
 -- a run ends behind a refused step
 pub refused-stops : (until : Until) (o : Outcome) → isRefused o ≡ true → stopsAt until o ≡ true
@@ -84,13 +80,6 @@ module _ (until : Until) (k : ℕ) (f : Floor) (c : Command) where
   unfolding runFrom recordsFrom
   run-goes-on zero l at e = clash (sym (on-true (stopsAt until (applyOf f c .outcome)) (le-leb 0 0 (omega arith)) refl)) e
   run-goes-on (suc left) l at e = let one : suc left - 1 ≡ left = omega arith in rw one (on-false _ (sym (some-left left _) ∙ e) refl)
-
--- on a floor that is not sound
-pub run-unsound : (until : Until) (f : Floor) (c : Command) (rs : List (List ℕ)) → soundOf f ≡ false
-    → record { floor = f; accepted = 0; outcome = Refused 6 } ≡ runFrom until 0 f c rs
-run-unsound until f c rs e =
-    let q = ap (λ (x : Stepped). x .outcome) (apply-unsound f c e) in
-    ap (λ (o : Outcome). record { floor = f; accepted = 0; outcome = o }) (sym q) ∙ run-refused until 0 f c rs (ap isRefused q)
 
 -- the floor once the loop has stored parts at the places i, b and j
 abbrev pub storedAt : (f : Floor) (i b j : ℕ) (x : Parts) → Floor

@@ -1,13 +1,11 @@
 -- The step by its three cases: the floor is not sound, the command is refused, the command is accepted.
-use Prim.Native.Nat.{ℕ}
 use mathlib.Core.Path.{_≡_, refl, sym, ap}
 use mathlib.Core.Bool.{false}
-use mathlib.Core.List.{List}
 use borrow.Author.Tests.{eq-eqb, ne-eqb}
 use Rattle.base.proofs.Choices.{on-true, on-false}
 use Rattle.floor.specs.Sound.{soundOf}
 use Rattle.floor.specs.Claims.{Sound}
-use Rattle.commands.specs.Commands.{commandOf, encodeOf}
+use Rattle.commands.specs.Commands.{encodeOf}
 use Rattle.commands.proofs.Encodings.{decode-encode}
 use Rattle.floor.specs.Refusals.{refusalOn}
 use Rattle.floor.specs.Effects.{effectOn}
@@ -15,11 +13,6 @@ use Rattle.floor.specs.Step.{refused, playOf, applyOf, stepOf}
 use Rattle.floor.specs.declared.Floor.{Floor}
 use Rattle.commands.specs.declared.Command.{Command}
 use Rattle.floor.proofs.SoundLaws.{sound-holds}
-
--- the step on a record is that on its command
-pub step-apply : (f : Floor) (r : List ℕ) → stepOf f r ≡ applyOf f (commandOf r)
-unfolding stepOf
-step-apply f r = refl
 
 -- the step on a command's record is the step on the command
 pub step-encode : (f : Floor) (c : Command) → stepOf f (encodeOf c) ≡ applyOf f c

@@ -2,7 +2,6 @@ use borrow.Author.Needs.{needs}
 use mathlib.Core.Path.{ap, _∙_}
 use Rattle.commands.specs.Outcomes.{numberOf, valueOf}
 use Rattle.floor.specs.Step.{stepOf}
-use Rattle.floor.specs.declared.Ran.{Ran}
 use Rattle.floor.specs.declared.Stepped.{Stepped}
 use Rattle.floor.proofs.RunCalls.{ofStep, run-one}
 use Rattle.floor.proofs.Numbered.{apply-number, apply-value}
