@@ -6,6 +6,7 @@ pub mod Room
 pub mod ByteLaws
 pub mod RecordLaws
 pub mod PartLaws
+pub mod PutLaws
 pub mod SizeLaws
 pub mod QuorumLaws
 pub mod MaskLaws

@@ -1,4 +1,4 @@
--- Whether four places from one on stand in a list: what the code's two tests say, which add nothing to the place.
+-- Whether k places from one on stand in a list of n: what the code's two tests say, which add nothing to the place.
 use Prim.Native.Nat.{ℕ, _+_, _-_, _≤_, _<_}
 use native.Mathlib.Omega.{arith}
 use mathlib.Core.Path.{_≡_}
@@ -6,12 +6,12 @@ use mathlib.Core.Bool.{false}
 use lib.Dec.{leb}
 use borrow.Author.Tests.{lt-leb}
 
-module _ (n at : ℕ) where
-  pub none-in-short : n < 4 → leb (at + 4) n ≡ false
-  none-in-short h = lt-leb (at + 4) n (omega arith)
+module _ (k n at : ℕ) where
+  pub none-in-short : n < k → leb (at + k) n ≡ false
+  none-in-short h = lt-leb (at + k) n (omega arith)
 
-  pub none-past : n - 4 < at → leb (at + 4) n ≡ false
-  none-past h = lt-leb (at + 4) n (omega arith)
+  pub none-past : n - k < at → leb (at + k) n ≡ false
+  none-past h = lt-leb (at + k) n (omega arith)
 
-  pub room : 4 ≤ n → at ≤ n - 4 → at + 4 ≤ n
-  room h k = omega arith
+  pub room : k ≤ n → at ≤ n - k → at + k ≤ n
+  room h l = omega arith

@@ -2,7 +2,9 @@
 -- and the numbers of a box record have four.
 use Prim.Native.Nat.{ℕ, _+_, _*_, _/_, _%_, _<_}
 use mathlib.Core.List.{List, [], _∷_, _++_}
-use lib.ListN.{getD, take, drop}
+use lib.Dec.{leb}
+use lib.ListN.{length, getD, take, drop}
+use Rattle.base.specs.Choice.{if_then_else_}
 
 -- a list of bytes: what a slice of `u8` holds
 abbrev pub Bytes : (s : List ℕ) → Type 0
@@ -30,3 +32,7 @@ wordAt s at = word32 (getD s at 0) (getD s (at + 1) 0) (getD s (at + 2) 0) (getD
 -- the list with a number's four bytes from a place on, all else as it was
 unfoldable pub withWord : (s : List ℕ) (at x : ℕ) → List ℕ
 withWord s at x = take at s ++ bytes32 x ++ drop (at + 4) s
+
+-- the list with other bytes from a place on, all else as it was; past its end nothing is put
+unfoldable pub bytesPut : (s : List ℕ) (at : ℕ) (bytes : List ℕ) → List ℕ
+bytesPut s at bytes = if leb (at + length bytes) (length s) then take at s ++ bytes ++ drop (at + length bytes) s else s

@@ -5,7 +5,7 @@ ghost use lib.Dec.{leb};
 ghost use lib.ListN.{length};
 ghost use Rattle.base.specs.Choice.{if_then_else_};
 ghost use Rattle.base.specs.Numbers.{sizesRight, quorum};
-ghost use Rattle.base.specs.Bytes.{word16, word32, bytes16, bytes32, wordAt, withWord};
+ghost use Rattle.base.specs.Bytes.{word16, word32, bytes16, bytes32, wordAt, withWord, bytesPut};
 
 // The number of two bytes, big-endian.
 pub fn be16(high: u8, low: u8) -> u16
@@ -67,6 +67,23 @@ pub fn put_u32(s: &mut [u8], at: usize, x: u32)
     s[at + 1] = bytes[1];
     s[at + 2] = bytes[2];
     s[at + 3] = bytes[3];
+}
+
+// Stores bytes from a place on. Past the end nothing is stored.
+pub fn put_bytes(s: &mut [u8], at: usize, bytes: &[u8])
+    ensures { λ _. ⌜ now (s .exit) ≡ bytesPut (now (s .entry)) at (now (bytes .entry)) ⌝ }
+{
+    if s.len() < bytes.len() {
+        return;
+    }
+    if s.len() - bytes.len() < at {
+        return;
+    }
+    let mut i = 0;
+    while i < bytes.len() {
+        s[at + i] = bytes[i];
+        i += 1;
+    }
 }
 
 // The size of a quorum of n boxes, a majority.

@@ -1,8 +1,11 @@
--- The claims on files, proved.
-use Rattle.drill_file.specs.Claims.{FileClaims}
+-- The claims on files and on the writer, proved.
+use lib.ListN.{length}
+use Rattle.drill_file.specs.Claims.{FileClaims, WriterClaims}
 use Rattle.drill_file.proofs.TestLaws.{accepted-passed, passed-accepted}
 use Rattle.drill_file.proofs.FileLaws.{header-number, header-values, accepted-values}
 use Rattle.drill_file.proofs.LayoutLaws.{header-layout, written-accepted, written-label, written-records}
+use Rattle.drill_file.proofs.WriterLaws.{unrefused, refused-none}
+use Rattle.drill_file.proofs.WrittenLaws.{left-filled, left-untouched, reads-back, writes-again, writes-short, parts-apart}
 
 pub file-claims : FileClaims
 file-claims = record {
@@ -15,4 +18,16 @@ file-claims = record {
   reads = written-accepted;
   label = written-label;
   records = written-records;
+}
+
+pub writer-claims : WriterClaims
+writer-claims = record {
+  writable = λ b p. unrefused (length b) p;
+  writes = λ b p. refused-none (length b) p;
+  filled = left-filled;
+  untouched = left-untouched;
+  back = reads-back;
+  again = writes-again;
+  short = writes-short;
+  apart = parts-apart;
 }

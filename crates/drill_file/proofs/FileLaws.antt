@@ -14,7 +14,7 @@ use Rattle.base.specs.Part.{IsPart}
 use Rattle.base.proofs.Choices.{on-true, on-false, by-test}
 use Rattle.base.proofs.PartLaws.{part-length}
 use Rattle.drill_file.specs.Claims.{Values}
-use Rattle.drill_file.specs.DrillFile.{boxesOf, stationsOf, labelLength, recordsStart, recordCount, wrongByte, wrongBytes, wrongLabel, fileRefusal, headerOf, headerRefusal, headerValues, fileValues, labelOf, labelStart}
+use Rattle.drill_file.specs.DrillFile.{boxesOf, stationsOf, labelLength, recordsStart, recordCount, wrongByte, wrongBytes, wrongLength, wrongLabel, fileRefusal, headerOf, headerRefusal, headerValues, fileValues, labelOf, labelStart}
 use Rattle.drill_file.specs.declared.Header.{Header}
 use Rattle.drill_file.specs.declared.Header.the-variants.{Refused, Accepted}
 use Rattle.drill_file.proofs.TestLaws.{accepted-passed}
@@ -38,30 +38,21 @@ module _ (s : List ℕ) (i : ℕ) (e : wrongBytes (drop i s) ≡ wrongBytes s) w
   unfolding wrongBytes
   bytes-right h = ap wrongBytes (sym (drop-of-length-le s h)) ∙ e
 
--- the tests of a label, one after the other; its length is l and it ends at e
-module _ (s : List ℕ) (l : ℕ) (p : l ≡ labelLength s) where
-  pub label-empty : l < 1 → true ≡ wrongLabel s
+-- the tests of a label, one after the other; its length is right and it ends at e
+pub length-wrong : (s : List ℕ) → wrongLength (labelLength s) ≡ true → true ≡ wrongLabel s
+unfolding wrongLabel
+length-wrong s t = on-true _ t refl
+
+module _ (s : List ℕ) (t : wrongLength (labelLength s) ≡ false) (e : ℕ) (q : e ≡ recordsStart s) where
+  pub label-past : length s < e → true ≡ wrongLabel s
   unfolding wrongLabel
-  label-empty h = on-true _ (lt-ltb (labelLength s) 1 (omega arith)) refl
+  label-past u = on-false _ t (on-true _ (lt-ltb (length s) (recordsStart s) (omega arith)) refl)
 
-  module _ (h : 1 ≤ l) where
-    pub label-long : 32 < l → true ≡ wrongLabel s
-    unfolding wrongLabel
-    label-long k = on-false _ (le-ltb (labelLength s) 1 (omega arith)) (on-true _ (lt-ltb 32 (labelLength s) (omega arith)) refl)
-
-    module _ (k : l ≤ 32) (e : ℕ) (q : e ≡ recordsStart s) where
-      pub label-past : length s < e → true ≡ wrongLabel s
-      unfolding wrongLabel
-      label-past u =
-          on-false _ (le-ltb (labelLength s) 1 (omega arith))
-          (on-false _ (le-ltb 32 (labelLength s) (omega arith)) (on-true _ (lt-ltb (length s) (recordsStart s) (omega arith)) refl))
-
-      pub label-bytes : e ≤ length s → wrongBytes (take (e - 6) (drop 6 s)) ≡ wrongLabel s
-      unfolding wrongLabel
-      label-bytes u =
-          let same : e - 6 ≡ labelLength s = omega arith in
-          on-false _ (le-ltb (labelLength s) 1 (omega arith))
-          (on-false _ (le-ltb 32 (labelLength s) (omega arith)) (on-false _ (le-ltb (length s) (recordsStart s) (omega arith)) (rw same)))
+  pub label-bytes : e ≤ length s → wrongBytes (take (e - 6) (drop 6 s)) ≡ wrongLabel s
+  unfolding wrongLabel
+  label-bytes u =
+      let same : e - 6 ≡ labelLength s = omega arith in
+      on-false _ t (on-false _ (le-ltb (length s) (recordsStart s) (omega arith)) (rw same))
 
 -- header and label by the refusal k of the file
 module _ (s : List ℕ) (k : ℕ) (e : k ≡ fileRefusal s) where

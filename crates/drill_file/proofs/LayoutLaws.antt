@@ -1,5 +1,5 @@
 -- An accepted file is exactly its parts, in the documented layout; and a file so laid out is accepted, with these parts.
-use Prim.Native.Nat.{ℕ, suc, _+_, _-_, _*_, _≤_}
+use Prim.Native.Nat.{ℕ, suc, _+_, _-_, _*_, _/_, _%_, _≤_}
 use mathlib.Core.Path.{_≡_, refl, sym, ap, _∙_}
 use mathlib.Core.List.{List, _∷_, _++_, flatten}
 use native.Mathlib.Omega.{arith}
@@ -7,12 +7,13 @@ use borrow.Author.Tests.{eq-eqb}
 use lib.ListN.{length, getD, drop, length-append, length-drop, take-append-drop}
 use lib.Seq.{drop-cons, drop-drop, take-all, length-take-le, take-append-seam}
 use Rattle.base.specs.Bytes.{Bytes, bytes16}
-use Rattle.base.specs.Records.{recordsFrom}
+use Rattle.base.specs.Records.{recordsFrom, recordsIn}
 use Rattle.base.proofs.Choices.{on-true}
 use Rattle.base.proofs.ByteLaws.{bytes-below, bytes16-of-word}
-use Rattle.base.proofs.RecordLaws.{record-length, records-length, record-nth, records-joined, joined-length, records-back}
+use Rattle.base.proofs.RecordLaws.{record-length, records-length, record-nth, records-joined, joined-length, records-back, records-drop}
 use Rattle.drill_file.specs.DrillFile.{statedSize, boxesOf, stationsOf, labelLength, labelPart, recordsStart, afterLabel, recordCount, fileRefusal, headerOf, labelOf, recordsOf}
-use Rattle.drill_file.specs.Layout.{bodyOf, fileOf, FileParts, LaidOut}
+use Rattle.drill_file.specs.Claims.{FileParts, LaidOut}
+use Rattle.drill_file.specs.Layout.{bodyOf, fileOf}
 use Rattle.drill_file.specs.declared.Header.the-variants.{Accepted}
 use Rattle.drill_file.proofs.TestLaws.{accepted-passed, passed-accepted}
 use Rattle.drill_file.proofs.FileLaws.{header-accepted, accepted-values}
@@ -26,7 +27,18 @@ label-is : (s : List ℕ) → fileRefusal s ≡ 0 → labelOf s ≡ labelPart s
 unfolding labelOf
 label-is s e = sym (on-true _ (eq-eqb (fileRefusal s) 0 e) refl)
 
+-- the records are those of the bytes behind the label
+pub rest-records : (s : List ℕ) → recordsIn (drop (recordsStart s) s) ≡ recordsOf s
+rest-records s =
+    ap (λ (k : ℕ). recordsFrom (k / 8) (drop (recordsStart s) s) 0) (length-drop (recordsStart s) s)
+    ∙ records-drop (recordCount s) s (recordsStart s) 0
+    ∙ ap (recordsFrom (recordCount s) s) (omega arith)
+
 module _ (s : List ℕ) (e : fileRefusal s ≡ 0) where
+  -- which are whole records
+  pub rest-whole : length (drop (recordsStart s) s) % 8 ≡ 0
+  rest-whole = rw (length-drop (recordsStart s) s) (accepted-passed s e .recorded .whole)
+
   label-long : length (labelPart s) ≡ labelLength s
   label-long = length-take-le (labelLength s) (drop 6 s) (rw length-drop (omega (arith, accepted-passed s e .labelled .within)))
 
@@ -111,7 +123,7 @@ module _ (n m : ℕ) (l : List ℕ) (rs : List (List ℕ)) (p : FileParts n m l 
   count : recordCount file ≡ length rs
   count = omega (arith, after)
 
-  written-passed : fileRefusal file ≡ 0
+  pub written-passed : fileRefusal file ≡ 0
   unfolding fileOf bodyOf
   written-passed =
       passed-accepted file

@@ -1,12 +1,15 @@
--- What is claimed of a file that is read, and of one that is laid out from its parts. The proof is `file-claims` in proofs/Claims.
-use Prim.Native.Nat.{ℕ, _+_, _-_, _%_, _≤_, _<_}
+-- What is claimed of a file that is read, of one that is laid out from its parts, and of the writer. The proofs are `file-claims` and
+-- `writer-claims` in proofs/Claims.
+use Prim.Native.Nat.{ℕ, _+_, _-_, _*_, _/_, _%_, _≤_, _<_}
 use mathlib.Core.Path.{_≡_}
-use mathlib.Core.List.{List}
-use lib.ListN.{length, getD}
+use mathlib.Core.List.{List, [], _++_, flatten}
+use lib.ListN.{length, getD, take, drop}
 use Rattle.base.specs.Bytes.{Bytes}
+use Rattle.base.specs.Records.{recordsFrom, recordsIn}
 use Rattle.base.specs.Claims.{Sizes}
 use Rattle.drill_file.specs.DrillFile.{statedSize, versionOf, boxesOf, stationsOf, labelLength, labelPart, recordsStart, afterLabel, recordCount, fileRefusal, headerOf, headerRefusal, headerValues, fileValues, labelOf, recordsOf}
-use Rattle.drill_file.specs.Layout.{fileOf, FileParts, LaidOut}
+use Rattle.drill_file.specs.Layout.{fileOf}
+use Rattle.drill_file.specs.Writer.{DrillParts, partsGiven, fileFrom, writeRefusal, writtenSize, writtenBuffer}
 use Rattle.drill_file.specs.declared.Header.the-variants.{Accepted}
 
 -- refusal 1
@@ -45,6 +48,27 @@ pub record Values (s : List ℕ) (n m start count : ℕ) : Type 0 where
   pub starts : start ≡ recordsStart s
   pub counts : count ≡ recordCount s
 
+-- the parts that a file may have
+pub record FileParts (n m : ℕ) (label : List ℕ) (records : List (List ℕ)) : Type 0 where
+  -- "n boxes (1 to 9 ..) and m stations (1 to 16 ..)"
+  pub boxes : (1 ≤ n) × (n ≤ 9)
+  pub stations : (1 ≤ m) × (m ≤ 16)
+  -- "label length 1 to 32; the label, bytes 33 to 126"
+  pub labelled : (1 ≤ length label) × (length label ≤ 32)
+  pub printable : (i : ℕ) → i < length label → (33 ≤ getD label i 0) × (getD label i 0 ≤ 126)
+  -- "records of 8 bytes, at most 4,096"
+  pub few : length records ≤ 4096
+  pub eights : (i : ℕ) → i < length records → length (getD records i []) ≡ 8
+
+-- a file, read as n, m and count records from start on, is exactly these parts and its label, in the documented layout
+pub record LaidOut (s : List ℕ) (n m start count : ℕ) : Type 0 where
+  pub parts : FileParts n m (labelOf s) (recordsFrom count s start)
+  pub exactly : s ≡ fileOf n m (labelOf s) (recordsFrom count s start)
+  -- the records are the rest of the file
+  pub starts : start ≡ 6 + length (labelOf s)
+  pub size : length s ≡ start + 8 * count
+  pub rest : flatten (recordsFrom count s start) ≡ drop start s
+
 -- What holds of every file, and of every file laid out.
 pub record FileClaims : Type 0 where
   -- a file is accepted exactly where none of the refusals 1 to 5 applies
@@ -60,3 +84,58 @@ pub record FileClaims : Type 0 where
   pub reads : (n m : ℕ) (l : List ℕ) (rs : List (List ℕ)) → FileParts n m l rs → headerOf (fileOf n m l rs) ≡ Accepted n m (6 + length l) (length rs)
   pub label : (n m : ℕ) (l : List ℕ) (rs : List (List ℕ)) → FileParts n m l rs → labelOf (fileOf n m l rs) ≡ l
   pub records : (n m : ℕ) (l : List ℕ) (rs : List (List ℕ)) → FileParts n m l rs → recordsOf (fileOf n m l rs) ≡ rs
+
+-- ---- The writer
+
+-- none of its refusals applies: a file may have these parts, and the buffer has room for it
+pub record Writable (room : ℕ) (p : DrillParts) : Type 0 where
+  pub parts : FileParts (p .boxes) (p .stations) (p .label) (recordsIn (p .run))
+  pub whole : length (p .run) % 8 ≡ 0
+  pub fits : length (fileFrom p) ≤ room
+
+-- the parts that a file has for its reader; the run is what stands from the start of the records on
+abbrev pub partsOf : (s : List ℕ) → DrillParts
+partsOf s = partsGiven (boxesOf s) (stationsOf s) (labelOf s) (drop (recordsStart s) s)
+
+-- the bytes that a caller takes for the file: as many of the buffer's first as the writer says
+abbrev pub fileIn : (buffer : List ℕ) (p : DrillParts) → List ℕ
+fileIn buffer p = take (writtenSize (length buffer) p) (writtenBuffer buffer p)
+
+-- "fills a lent buffer with the file and returns its size"; "Bytes behind the file .. are untouched"
+pub record Filled (buffer : List ℕ) (p : DrillParts) : Type 0 where
+  pub size : writtenSize (length buffer) p ≡ 6 + length (p .label) + length (p .run)
+  pub file : fileIn buffer p ≡ fileFrom p
+  pub behind : drop (writtenSize (length buffer) p) (writtenBuffer buffer p) ≡ drop (writtenSize (length buffer) p) buffer
+  pub room : length (writtenBuffer buffer p) ≡ length buffer
+
+-- "a refused buffer [is] untouched"
+pub record Untouched (buffer : List ℕ) (p : DrillParts) : Type 0 where
+  pub size : writtenSize (length buffer) p ≡ 0
+  pub kept : writtenBuffer buffer p ≡ buffer
+
+-- "Reading back gives the same parts": the file is accepted, and its n, m, label and records are those given
+pub record ReadBack (s : List ℕ) (p : DrillParts) : Type 0 where
+  pub accepted : fileRefusal s ≡ 0
+  pub header : headerOf s ≡ Accepted (p .boxes) (p .stations) (6 + length (p .label)) (length (p .run) / 8)
+  pub parts : partsOf s ≡ p
+  pub records : recordsOf s ≡ recordsIn (p .run)
+
+-- "an accepted file written again is the same file"
+pub record WrittenAgain (buffer s : List ℕ) : Type 0 where
+  pub accepted : writeRefusal (length buffer) (partsOf s) ≡ 0
+  pub size : writtenSize (length buffer) (partsOf s) ≡ length s
+  pub same : writtenBuffer buffer (partsOf s) ≡ s ++ drop (length s) buffer
+
+-- What holds of the writer, for every buffer and all parts.
+pub record WriterClaims : Type 0 where
+  -- a file is written exactly where none of 3, 4, 5 and 18 applies
+  pub writable : (buffer : List ℕ) (p : DrillParts) → writeRefusal (length buffer) p ≡ 0 → Writable (length buffer) p
+  pub writes : (buffer : List ℕ) (p : DrillParts) → Writable (length buffer) p → writeRefusal (length buffer) p ≡ 0
+  pub filled : (buffer : List ℕ) (p : DrillParts) → writeRefusal (length buffer) p ≡ 0 → Filled buffer p
+  pub untouched : (buffer : List ℕ) (p : DrillParts) → ¬ (writeRefusal (length buffer) p ≡ 0) → Untouched buffer p
+  pub back : (buffer : List ℕ) (p : DrillParts) → writeRefusal (length buffer) p ≡ 0 → ReadBack (fileIn buffer p) p
+  -- an accepted file, taken apart and written again; 18 where the buffer is shorter than the file
+  pub again : (s buffer : List ℕ) → Bytes s → fileRefusal s ≡ 0 → length s ≤ length buffer → WrittenAgain buffer s
+  pub short : (s buffer : List ℕ) → Bytes s → fileRefusal s ≡ 0 → length buffer < length s → writeRefusal (length buffer) (partsOf s) ≡ 18
+  -- two different sets of parts never make the same file
+  pub apart : (b c : List ℕ) (p q : DrillParts) → writeRefusal (length b) p ≡ 0 → writeRefusal (length c) q ≡ 0 → fileIn b p ≡ fileIn c q → p ≡ q

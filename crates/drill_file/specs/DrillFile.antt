@@ -65,16 +65,22 @@ unfoldable pub wrongBytes : (bs : List ℕ) → Bool
 wrongBytes [] = false
 wrongBytes (b ∷ bs) = if wrongByte b then true else wrongBytes bs
 
+unfoldable pub wrongLength : (k : ℕ) → Bool
+wrongLength k = if ltb k 1 then true else ltb 32 k
+
 unfoldable pub wrongLabel : (s : List ℕ) → Bool
 wrongLabel s =
-    if ltb (labelLength s) 1 then true
-    else if ltb 32 (labelLength s) then true
+    if wrongLength (labelLength s) then true
     else if ltb (length s) (recordsStart s) then true
     else wrongBytes (labelPart s)
 
 -- 5. "What follows the label is not whole records, or is more than 4,096 of them."
+-- Of that many bytes:
+unfoldable pub wrongRun : (k : ℕ) → Bool
+wrongRun k = if eqb (k % 8) 0 then ltb 4096 (k / 8) else true
+
 unfoldable pub wrongRecords : (s : List ℕ) → Bool
-wrongRecords s = if eqb (afterLabel s % 8) 0 then ltb 4096 (recordCount s) else true
+wrongRecords s = wrongRun (afterLabel s)
 
 -- "The first that applies is given", 0 where none does: the file is then accepted.
 unfoldable pub fileRefusal : (s : List ℕ) → ℕ

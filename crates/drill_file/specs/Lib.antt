@@ -1,3 +1,4 @@
 pub mod DrillFile
 pub mod Layout
+pub mod Writer
 pub mod Claims

@@ -1,8 +1,14 @@
-// The drill file: its header, its label and its records (document 01, "The drill file" and the refusals 1 to 5).
+// The drill file: its header, its label and its records (document 01, "The drill file" and the refusals 1 to 5), and the writer.
 ghost use mathlib.Core.Path.{_≡_};
 ghost use lib.ListN.{length, getD};
 ghost use Rattle.base.specs.Part.{IsPart};
-ghost use Rattle.drill_file.specs.DrillFile.{recordsStart, afterLabel, wrongSize, wrongVersion, wrongFloor, wrongByte, wrongBytes, wrongLabel, wrongRecords, fileRefusal, headerOf, headerRefusal, headerValues, fileValues, labelOf, labelStart};
+ghost use Rattle.drill_file.specs.DrillFile.{recordsStart, afterLabel, wrongSize, wrongVersion, wrongFloor, wrongByte, wrongBytes, wrongLength, wrongLabel, wrongRun, wrongRecords, fileRefusal, headerOf, headerRefusal, headerValues, fileValues, labelOf, labelStart};
+
+mod writer;
+
+pub use writer::Written;
+pub use writer::drill_write;
+pub use writer::write_file;
 
 // What the header says: the refusal, or n, m, where the records start and how many there are.
 pub enum Header {
@@ -100,15 +106,21 @@ fn wrong_bytes(s: &[u8]) -> bool
     false
 }
 
+// Whether a label may not have that many bytes.
+fn wrong_length(k: usize) -> bool
+    ensures { λ y. ⌜ y ≡ wrongLength k ⌝ }
+{
+    if k < 1 {
+        return true;
+    }
+    32 < k
+}
+
 // Refusal 4.
 fn wrong_label(file: &[u8]) -> bool
     ensures { λ y. ⌜ y ≡ wrongLabel (now (file .entry)) ⌝ }
 {
-    let length = byte_at(file, 5);
-    if length < 1 {
-        return true;
-    }
-    if 32 < length {
+    if wrong_length(wide(byte_at(file, 5))) {
         return true;
     }
     let end = records_start(file);
@@ -118,15 +130,21 @@ fn wrong_label(file: &[u8]) -> bool
     wrong_bytes(&file[6..end])
 }
 
+// Whether that many bytes are not whole records, or too many of them.
+fn wrong_run(k: usize) -> bool
+    ensures { λ y. ⌜ y ≡ wrongRun k ⌝ }
+{
+    if k % 8 != 0 {
+        return true;
+    }
+    4096 < k / 8
+}
+
 // Refusal 5.
 fn wrong_records(file: &[u8]) -> bool
     ensures { λ y. ⌜ y ≡ wrongRecords (now (file .entry)) ⌝ }
 {
-    let rest = after_label(file);
-    if rest % 8 != 0 {
-        return true;
-    }
-    4096 < rest / 8
+    wrong_run(after_label(file))
 }
 
 // The first of the refusals 1 to 5 that applies, 0 where none does.

@@ -18,11 +18,11 @@ use Rattle.floor.specs.Step.{playOf, applyOf, stepOf}
 use Rattle.floor.specs.Runs.{floorAt, stopsAt, runFrom, playedOn}
 use Rattle.solo.specs.Plan.{highestRank, roundAbove, answeringFrom, lowest, exchange, exchanges, exchangesOf}
 use Rattle.solo.specs.Solo.{frontRefusal, soloRefusal, soloOf}
-use Rattle.drill_file.specs.DrillFile.{wrongSize, wrongVersion, wrongFloor, wrongByte, wrongBytes, wrongLabel, wrongRecords, fileRefusal, labelOf}
+use Rattle.drill_file.specs.DrillFile.{wrongSize, wrongVersion, wrongFloor, wrongByte, wrongBytes, wrongLength, wrongLabel, wrongRun, wrongRecords, fileRefusal, labelOf}
 use Rattle.player.specs.Play.{playedOf, lastRank}
 use Rattle.examples.specs.WorkedRuns.{saidFrom, answersFrom, linesFrom}
 use Rattle.examples.specs.Table.{Claim}
 
 pub examples-hold : Claim
-unfolding if_then_else_ sizesRight recordAt recordsFrom bit setBit countBelow ones onesIn rmwRead rmwWrite takes standing waitingBelow atQuorum stillYes allYes stationsBelow soundOf newFloorOf allZero spared commandOf newRow better bestOf revisionFrom revisionOf issued beginRefusal serveRefusal deliverRefusal stopRefusal leaveRefusal writeEndedOn deliveredOn playOf applyOf stepOf floorAt stopsAt runFrom playedOn wrongSize wrongVersion wrongFloor wrongByte wrongBytes wrongLabel wrongRecords fileRefusal labelOf playedOf lastRank highestRank roundAbove answeringFrom lowest exchange exchanges exchangesOf frontRefusal soloRefusal soloOf saidFrom answersFrom linesFrom
+unfolding if_then_else_ sizesRight recordAt recordsFrom bit setBit countBelow ones onesIn rmwRead rmwWrite takes standing waitingBelow atQuorum stillYes allYes stationsBelow soundOf newFloorOf allZero spared commandOf newRow better bestOf revisionFrom revisionOf issued beginRefusal serveRefusal deliverRefusal stopRefusal leaveRefusal writeEndedOn deliveredOn playOf applyOf stepOf floorAt stopsAt runFrom playedOn wrongSize wrongVersion wrongFloor wrongByte wrongBytes wrongLength wrongLabel wrongRun wrongRecords fileRefusal labelOf playedOf lastRank highestRank roundAbove answeringFrom lowest exchange exchanges exchangesOf frontRefusal soloRefusal soloOf saidFrom answersFrom linesFrom
 examples-hold = (refl, (refl, (refl, (refl, (refl, (refl, (refl, (refl, (refl, (refl, (refl, (refl, (refl, (refl, (refl, (refl, (refl, (refl, (refl, tt)))))))))))))))))))

@@ -1,18 +1,16 @@
 -- Playing a file, by its header's answer.
-use Prim.Native.Nat.{ℕ, _-_, _/_, _%_, _≤_}
+use Prim.Native.Nat.{ℕ, _-_, _%_, _≤_}
 use native.Mathlib.Omega.{arith}
-use native.Mathlib.Nat.{add-zero}
 use mathlib.Core.Path.{_≡_, refl, sym, ap, ap₂, subst, _∙_}
 use mathlib.Core.List.{List}
 use lib.ListN.{length, take, drop, length-drop}
 use lib.Seq.{take-all}
 use borrow.Author.Tests.{eq-eqb, ne-eqb}
 use Rattle.base.proofs.Choices.{on-true, on-false}
-use Rattle.base.specs.Records.{recordsFrom, recordsIn}
+use Rattle.base.specs.Records.{recordsIn}
 use mathlib.Core.Bool.{true}
 use Rattle.base.specs.Choice.{if_then_else_}
 use Rattle.base.specs.Numbers.{sizesRight}
-use Rattle.base.proofs.RecordLaws.{records-drop}
 use Rattle.floor.specs.Floors.{emptyFloor, newFloorOf}
 use Rattle.floor.specs.Runs.{playedOn, playedIn}
 use Rattle.floor.specs.Claims.{PlayedOver}
@@ -20,10 +18,13 @@ use Rattle.floor.proofs.SoundLaws.{sound-holds}
 use Rattle.floor.proofs.Keeps.{new-sound}
 use Rattle.floor.proofs.RunCalls.{run-0, played-whole}
 use Rattle.floor.proofs.RunMeans.{run-played}
-use Rattle.drill_file.specs.DrillFile.{boxesOf, stationsOf, fileRefusal, headerOf, recordsOf}
-use Rattle.drill_file.specs.Claims.{Values}
+use Rattle.drill_file.specs.DrillFile.{boxesOf, stationsOf, recordsStart, fileRefusal, headerOf, recordsOf}
+use Rattle.drill_file.specs.Claims.{Values, fileIn}
+use Rattle.drill_file.specs.Writer.{DrillParts, writeRefusal}
 use Rattle.drill_file.proofs.FileLaws.{refused-number, accepted-values}
 use Rattle.drill_file.proofs.TestLaws.{accepted-passed}
+use Rattle.drill_file.proofs.LayoutLaws.{rest-records, rest-whole}
+use Rattle.drill_file.proofs.Claims.{writer-claims}
 use Rattle.player.specs.Play.{playedOf}
 use Rattle.floor.specs.declared.NewFloor.{NewFloor}
 use Rattle.drill_file.specs.declared.Header.{Header}
@@ -50,6 +51,12 @@ pub played-refused : (s : List ℕ) → (fileRefusal s ≡ 0 → ⊥) → played
 unfolding playedOf
 played-refused s e = sym (on-false _ (ne-eqb _ _ e) refl)
 
+-- whole records on a new floor, which is sound: nothing turns them back before the first step
+whole-played : (n m : ℕ) (l : List ℕ) → length l % 8 ≡ 0 → playedIn (newFloorOf n m .floor) l ≡ playedOn (newFloorOf n m .floor) (recordsIn l)
+whole-played n m l whole =
+    let f = newFloorOf n m .floor in
+    sym (played-whole f l 0 (run-0 f l (sound-holds f (new-sound n m)) whole) refl (playedOn f (recordsIn l)) refl)
+
 module _ (s : List ℕ) (h : Header) (e : h ≡ headerOf s) where
   pub header-refused : (k : ℕ) (x : NewFloor) → h ≡ Refused k → x ≡ newFloorOf 1 1 → record { floor = x .floor; accepted = 0; refusal = k } ≡ playedOf s
   header-refused k x q ex =
@@ -68,31 +75,29 @@ module _ (s : List ℕ) (h : Header) (e : h ≡ headerOf s) where
     rest : take (length s - start) (drop start s) ≡ drop start s
     rest = take-all (length s - start) (drop start s) (rw length-drop (omega arith))
 
-    records : recordsIn (drop start s) ≡ recordsOf s
-    records =
-        ap (λ (k : ℕ). recordsFrom (k / 8) (drop start s) 0) (length-drop start s)
-        ∙ records-drop ((length s - start) / 8) s start 0
-        ∙ ap (recordsFrom ((length s - start) / 8) s) (add-zero start)
-        ∙ ap (λ (k : ℕ). recordsFrom ((length s - k) / 8) s k) (values .starts)
-
-    -- they are whole, and a new floor is sound: nothing turns them back before the first step
-    whole : length (drop start s) % 8 ≡ 0
-    whole = omega (arith, length-drop start s, accepted-passed s (values .accepted) .recorded .whole, values .starts)
-
-    untouched : playedIn (newFloorOf n m .floor) (drop start s) ≡ playedOn (newFloorOf n m .floor) (recordsIn (drop start s))
-    untouched =
-        let f = newFloorOf n m .floor in
-        sym (played-whole f (drop start s) 0 (run-0 f (drop start s) (sound-holds f (new-sound n m)) whole) refl (playedOn f (recordsIn (drop start s))) refl)
+    -- they are whole
+    records : playedIn (newFloorOf n m .floor) (drop start s) ≡ playedOn (newFloorOf n m .floor) (recordsOf s)
+    records = rw (values .starts) (whole-played n m (drop (recordsStart s) s) (rest-whole s (values .accepted)) ∙ ap (playedOn (newFloorOf n m .floor)) (rest-records s))
 
     pub header-played : (y : Played) → y ≡ playedIn (newFloorOf n m .floor) (take (length s - start) (drop start s)) → y ≡ playedOf s
     header-played y ey =
-        ey ∙ ap (playedIn (newFloorOf n m .floor)) rest ∙ untouched ∙ ap (playedOn (newFloorOf n m .floor)) records
+        ey ∙ ap (playedIn (newFloorOf n m .floor)) rest ∙ records
         ∙ ap₂ (λ (a b : ℕ). playedOn (newFloorOf a b .floor) (recordsOf s)) (values .boxes) (values .stations)
         ∙ sym (played-accepted s (values .accepted))
 
--- What the player says of an accepted file, and of a refused one.
+-- a file that was written
+pub played-written : (b : List ℕ) (p : DrillParts) → writeRefusal (length b) p ≡ 0 → playedOf (fileIn b p) ≡ playedIn (newFloorOf (p .boxes) (p .stations) .floor) (p .run)
+played-written b p e =
+    let w = writer-claims in
+    let r = w .back b p e in
+    let v = accepted-values (fileIn b p) _ _ _ _ (r .header) in
+    played-accepted (fileIn b p) (r .accepted)
+    ∙ rw (← (v .boxes), ← (v .stations), r .records) (sym (whole-played (p .boxes) (p .stations) (p .run) (w .writable b p e .whole)))
+
+-- What the player says of an accepted file, of a refused one, and of one that was written.
 pub player-claims : PlayerClaims
 player-claims = record {
   accepted = λ s e. subst (PlayedOver (newFloorOf (boxesOf s) (stationsOf s) .floor) (recordsOf s)) (sym (played-accepted s e)) (run-played _ (recordsOf s));
   refused = played-refused;
+  written = played-written;
 }

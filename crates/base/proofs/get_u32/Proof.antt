@@ -12,9 +12,9 @@ unfolding wordAt
 get-u32-spec =
     tie.close
     (tie.spec
-    (λ c. on-false _ (none-in-short _ _ (c .if1 .taken)) refl)
+    (λ c. on-false _ (none-in-short 4 _ _ (c .if1 .taken)) refl)
     (λ c. search needs)
-    (λ c. on-false _ (none-past _ _ (c .if2 .taken)) refl)
+    (λ c. on-false _ (none-past 4 _ _ (c .if2 .taken)) refl)
     (λ c. search needs)
     (λ c. search needs)
     (λ c. search needs)
@@ -25,4 +25,4 @@ get-u32-spec =
     (λ c κs. search needs)
     (λ c.
     let d = c .before .before .before .before .before in
-    on-true _ (le-leb _ _ (room _ _ (d .before .if1 .left) (d .if2 .left))) (c .be32 .ensures)))
+    on-true _ (le-leb _ _ (room 4 _ _ (d .before .if1 .left) (d .if2 .left))) (c .be32 .ensures)))

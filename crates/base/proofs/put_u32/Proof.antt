@@ -17,9 +17,9 @@ unfolding withWord
 put-u32-spec =
     tie.close
     (tie.spec
-    (λ c. on-false _ (none-in-short _ _ (c .if1 .taken)) refl)
+    (λ c. on-false _ (none-in-short 4 _ _ (c .if1 .taken)) refl)
     (λ c. search needs)
-    (λ c. on-false _ (none-past _ _ (c .if2 .taken)) refl)
+    (λ c. on-false _ (none-past 4 _ _ (c .if2 .taken)) refl)
     (λ c κs. search needs)
     (λ c. search needs)
     (λ c. search needs)
@@ -35,5 +35,5 @@ put-u32-spec =
     (λ c. search needs)
     (λ c.
     let s = c .before .before .before .before .args in
-    let h = room _ _ (c .before .before .if1 .left) (c .before .if2 .left) in
+    let h = room 4 _ _ (c .before .before .if1 .left) (c .before .if2 .left) in
     on-true _ (le-leb _ _ h) (rw (c .split32 .ensures) (simp towards-suc (simp towards-suc at (sets-eq (bytes32 (s .x)) (s .s .now) (s .at) h))))))

@@ -1,0 +1,117 @@
+-- What the writer leaves in a buffer: read back it is the parts that were given, and an accepted file is written again as it was.
+use Prim.Native.Nat.{ℕ, _+_, _/_, _%_, _≤_, _<_}
+use native.Mathlib.Omega.{arith}
+use mathlib.Core.Path.{_≡_, refl, sym, ap, _∙_}
+use mathlib.Core.List.{List, _++_, flatten}
+use borrow.Author.Tests.{lt-ltb, eq-eqb, ne-eqb}
+use lib.ListN.{length, drop, length-append, length-drop}
+use lib.Seq.{take-append-seam, drop-append-seam}
+use Rattle.base.specs.Bytes.{Bytes}
+use Rattle.base.specs.Records.{recordsIn}
+use Rattle.base.proofs.Choices.{on-true, on-false}
+use Rattle.base.proofs.RecordLaws.{records-length}
+use Rattle.drill_file.specs.Claims.{FileParts, partsOf, fileIn, Filled, Untouched, ReadBack, WrittenAgain}
+use Rattle.drill_file.specs.DrillFile.{boxesOf, stationsOf, labelOf, recordsStart, fileRefusal, headerOf, recordsOf}
+use Rattle.drill_file.specs.Layout.{bodyOf, fileOf}
+use Rattle.drill_file.specs.Writer.{DrillParts, fileFrom, writeRefusal, writtenSize, writtenBuffer}
+use Rattle.drill_file.specs.declared.Header.the-variants.{Accepted}
+use Rattle.drill_file.proofs.LayoutLaws.{rest-records, rest-whole, accepted-rest, accepted-parts, accepted-exactly, written-passed, written-accepted, written-label, written-records}
+use Rattle.drill_file.proofs.WriterLaws.{run-joined, file-size, unrefused, refused-short, refused-none}
+
+-- a refused buffer
+pub left-untouched : (b : List ℕ) (p : DrillParts) → ¬ (writeRefusal (length b) p ≡ 0) → Untouched b p
+unfolding writtenSize writtenBuffer
+left-untouched b p f =
+    let t = ne-eqb (writeRefusal (length b) p) 0 f in
+    record { size = sym (on-false _ t refl); kept = sym (on-false _ t refl) }
+
+-- a buffer that is filled
+module _ (b : List ℕ) (p : DrillParts) (e : writeRefusal (length b) p ≡ 0) where
+  size-is : writtenSize (length b) p ≡ length (fileFrom p)
+  unfolding writtenSize
+  size-is = sym (on-true _ (eq-eqb (writeRefusal (length b) p) 0 e) refl)
+
+  buffer-is : writtenBuffer b p ≡ fileFrom p ++ drop (length (fileFrom p)) b
+  unfolding writtenBuffer
+  buffer-is = sym (on-true _ (eq-eqb (writeRefusal (length b) p) 0 e) refl)
+
+  file-is : fileIn b p ≡ fileFrom p
+  file-is = rw (size-is, buffer-is) (take-append-seam (fileFrom p) (drop (length (fileFrom p)) b))
+
+  pub left-filled : Filled b p
+  left-filled =
+      let w = unrefused (length b) p e in
+      let rest = length-drop (length (fileFrom p)) b in
+      record {
+        size = size-is ∙ file-size p (w .whole);
+        file = file-is;
+        behind = rw (size-is, buffer-is) (drop-append-seam (fileFrom p) (drop (length (fileFrom p)) b));
+        room = rw (buffer-is, length-append (fileFrom p) (drop (length (fileFrom p)) b)) (omega (arith, rest, w .fits));
+      }
+
+-- the file of parts that a file may have, read
+module _ (p : DrillParts) (f : FileParts (p .boxes) (p .stations) (p .label) (recordsIn (p .run))) where
+  from-records : recordsOf (fileFrom p) ≡ recordsIn (p .run)
+  unfolding fileFrom
+  from-records = written-records (p .boxes) (p .stations) (p .label) (recordsIn (p .run)) f
+
+  from-passed : fileRefusal (fileFrom p) ≡ 0
+  unfolding fileFrom
+  from-passed = written-passed (p .boxes) (p .stations) (p .label) (recordsIn (p .run)) f
+
+  from-header : headerOf (fileFrom p) ≡ Accepted (p .boxes) (p .stations) (6 + length (p .label)) (length (p .run) / 8)
+  unfolding fileFrom
+  from-header =
+      written-accepted (p .boxes) (p .stations) (p .label) (recordsIn (p .run)) f
+      ∙ ap (Accepted (p .boxes) (p .stations) (6 + length (p .label))) (records-length (length (p .run) / 8) (p .run) 0)
+
+  from-label : labelOf (fileFrom p) ≡ p .label
+  unfolding fileFrom
+  from-label = written-label (p .boxes) (p .stations) (p .label) (recordsIn (p .run)) f
+
+  from-boxes : boxesOf (fileFrom p) ≡ p .boxes
+  unfolding fileFrom fileOf bodyOf
+  from-boxes = refl
+
+  from-stations : stationsOf (fileFrom p) ≡ p .stations
+  unfolding fileFrom fileOf bodyOf
+  from-stations = refl
+
+  from-run : length (p .run) % 8 ≡ 0 → drop (recordsStart (fileFrom p)) (fileFrom p) ≡ p .run
+  from-run whole = sym (accepted-rest (fileFrom p) from-passed) ∙ ap flatten from-records ∙ run-joined (p .run) whole
+
+  from-parts : length (p .run) % 8 ≡ 0 → partsOf (fileFrom p) ≡ p
+  from-parts whole = rw (from-boxes, from-stations, from-label, from-run whole)
+
+pub reads-back : (b : List ℕ) (p : DrillParts) → writeRefusal (length b) p ≡ 0 → ReadBack (fileIn b p) p
+reads-back b p e =
+    let w = unrefused (length b) p e in
+    rw (file-is b p e)
+    (record { accepted = from-passed p (w .parts); header = from-header p (w .parts); parts = from-parts p (w .parts) (w .whole); records = from-records p (w .parts) })
+
+-- so the file tells its parts
+pub parts-apart : (b c : List ℕ) (p q : DrillParts) → writeRefusal (length b) p ≡ 0 → writeRefusal (length c) q ≡ 0 → fileIn b p ≡ fileIn c q → p ≡ q
+parts-apart b c p q e f same = sym (reads-back b p e .parts) ∙ ap partsOf same ∙ reads-back c q f .parts
+
+-- an accepted file, taken apart
+module _ (s b : List ℕ) (bytes : Bytes s) (e : fileRefusal s ≡ 0) where
+  taken-file : fileFrom (partsOf s) ≡ s
+  unfolding fileFrom
+  taken-file = rw (rest-records s) (sym (accepted-exactly s e bytes))
+
+  taken-parts : FileParts (boxesOf s) (stationsOf s) (labelOf s) (recordsIn (drop (recordsStart s) s))
+  taken-parts = rw (rest-records s) (accepted-parts s e)
+
+  pub writes-again : length s ≤ length b → WrittenAgain b s
+  writes-again h =
+      let accepted = refused-none (length b) (partsOf s) (record { parts = taken-parts; whole = rest-whole s e; fits = rw taken-file h }) in
+      record {
+        accepted = accepted;
+        size = size-is b (partsOf s) accepted ∙ ap length taken-file;
+        same = buffer-is b (partsOf s) accepted ∙ rw taken-file;
+      }
+
+  pub writes-short : length b < length s → writeRefusal (length b) (partsOf s) ≡ 18
+  writes-short h =
+      refused-short (length b) (partsOf s) taken-parts (rest-whole s e)
+      ∙ sym (on-true _ (lt-ltb (length b) (length (fileFrom (partsOf s))) (rw taken-file h)) refl)

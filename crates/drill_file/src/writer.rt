@@ -1,0 +1,113 @@
+// The writer: a drill file from its parts, in a lent buffer (document 02, wish 1).
+ghost use mathlib.Core.Path.{_≡_};
+ghost use mathlib.Core.List.{[], _∷_, _++_};
+ghost use Prim.Native.Nat.{_+_, _-_, _≤_, _<_};
+ghost use lib.Dec.{ltb};
+ghost use lib.ListN.{length};
+ghost use mathlib.Core.Bool.{not};
+ghost use Rattle.base.specs.Numbers.{sizesRight};
+ghost use Rattle.base.specs.Bytes.{bytes16};
+ghost use Rattle.drill_file.specs.Writer.{partsGiven, wrongText, writeRefusal, writtenSize, writtenBuffer};
+
+// What came of it: the size of the file, and the refusal. One of them is 0.
+pub struct Written {
+    pub size: usize,
+    pub refusal: u8,
+}
+
+// Refusal 3.
+fn wrong_sizes(n: u8, m: u8) -> bool
+    ensures { λ y. ⌜ y ≡ not (sizesRight n m) ⌝ }
+{
+    !base::sizes_right(n, m)
+}
+
+// Refusal 4.
+fn wrong_text(label: &[u8]) -> bool
+    ensures { λ y. ⌜ y ≡ wrongText (now (label .entry)) ⌝ }
+{
+    if crate::wrong_length(label.len()) {
+        return true;
+    }
+    crate::wrong_bytes(label)
+}
+
+// Whether so many bytes of room are too few for a file whose label and whose records have so many.
+fn too_short(room: usize, letters: usize, bytes: usize) -> bool
+    ensures { λ y. ⌜ y ≡ ltb room (6 + letters + bytes) ⌝ }
+{
+    if room < 6 {
+        return true;
+    }
+    let rest = room - 6;
+    if rest < letters {
+        return true;
+    }
+    rest - letters < bytes
+}
+
+// The first refusal that applies, 0 where none does.
+fn write_refusal(room: usize, n: u8, m: u8, label: &[u8], records: &[u8]) -> u8
+    ensures { λ y. ⌜ y ≡ writeRefusal room (partsGiven n m (now (label .entry)) (now (records .entry))) ⌝ }
+{
+    if wrong_sizes(n, m) {
+        return 3;
+    }
+    if wrong_text(label) {
+        return 4;
+    }
+    if crate::wrong_run(records.len()) {
+        return 5;
+    }
+    if too_short(room, label.len(), records.len()) {
+        return 18;
+    }
+    0
+}
+
+// The bytes before the label, of a file of that size whose label has so many bytes.
+fn head(size: usize, n: u8, m: u8, letters: usize) -> [u8; 6]
+    requires { ⌜ (2 ≤ size) × (size < 65536) × (letters < 256) ⌝ }
+    ensures { λ y. ⌜ y ≡ bytes16 (size - 2) ++ (1 ∷ n ∷ m ∷ letters ∷ []) ⌝ }
+{
+    let l = base::split16((size - 2) as u16);
+    [l[0], l[1], 1, n, m, letters as u8]
+}
+
+// Writes the file of these parts into the buffer.
+pub fn write_file(buffer: &mut [u8], n: u8, m: u8, label: &[u8], records: &[u8]) -> Written
+    ensures refusal { λ y. ⌜ y .refusal ≡ writeRefusal (length (now (buffer .entry))) (partsGiven n m (now (label .entry)) (now (records .entry))) ⌝ }
+    ensures size { λ y. ⌜ y .size ≡ writtenSize (length (now (buffer .entry))) (partsGiven n m (now (label .entry)) (now (records .entry))) ⌝ }
+    ensures buffer { λ _. ⌜ now (buffer .exit) ≡ writtenBuffer (now (buffer .entry)) (partsGiven n m (now (label .entry)) (now (records .entry))) ⌝ }
+{
+    let refusal = write_refusal(buffer.len(), n, m, label, records);
+    if refusal != 0 {
+        return Written { size: 0, refusal };
+    }
+    let start = 6 + label.len();
+    let size = start + records.len();
+    let first = head(size, n, m, label.len());
+    base::put_bytes(buffer, 0, &first);
+    base::put_bytes(buffer, 6, label);
+    base::put_bytes(buffer, start, records);
+    Written { size, refusal }
+}
+
+// The same for C: returns the refusal and stores the size.
+#[no_mangle]
+pub extern "C" fn drill_write(
+    buffer: &mut [u8],
+    n: u8,
+    m: u8,
+    label: &[u8],
+    records: &[u8],
+    size: &mut usize,
+) -> u32
+    ensures refusal { λ y. ⌜ y ≡ writeRefusal (length (now (buffer .entry))) (partsGiven n m (now (label .entry)) (now (records .entry))) ⌝ }
+    ensures size { λ _. ⌜ now (size .exit) ≡ writtenSize (length (now (buffer .entry))) (partsGiven n m (now (label .entry)) (now (records .entry))) ⌝ }
+    ensures buffer { λ _. ⌜ now (buffer .exit) ≡ writtenBuffer (now (buffer .entry)) (partsGiven n m (now (label .entry)) (now (records .entry))) ⌝ }
+{
+    let written = write_file(buffer, n, m, label, records);
+    *size = written.size;
+    written.refusal as u32
+}
