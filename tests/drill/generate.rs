@@ -1,5 +1,7 @@
-//! Pseudo-random drill files from a seed: long runs with much contention, and damaged files of every kind. The same seed and the
-//! same number always give the same file.
+//! Pseudo-random drill files from a seed: long runs with much contention, and damaged files of every kind; and parts for the writer. The
+//! same seed and the same number always give the same.
+#![allow(dead_code)]
+
 use crate::reference::{Floor, Phase, Request, State, Step, MOST_ATTEMPTS};
 
 /// xorshift64*, so that the files depend on nothing but the seed.
@@ -51,6 +53,43 @@ pub fn file(seed: u64, number: u64) -> Vec<u8> {
         18 => wild_records(r),
         _ => noise(r),
     }
+}
+
+/// What is handed to the writer: the buffer, n, m, the label and the records.
+pub struct Handed {
+    pub buffer: Vec<u8>,
+    pub n: u8,
+    pub m: u8,
+    pub label: Vec<u8>,
+    pub records: Vec<u8>,
+}
+
+/// Parts and a buffer of that number: right ones, and such as are turned away for one reason or several.
+pub fn handed(seed: u64, number: u64) -> Handed {
+    let r = &mut Random::new(seed ^ 0x5712_77E4, number);
+    let wrong = r.pick(&[0, 0, 10, 50]);
+    let n = if r.percent(wrong) { r.pick(&[0, 10, 11, 255]) } else { r.between(1, 9) };
+    let m = if r.percent(wrong) { r.pick(&[0, 17, 18, 255]) } else { r.between(1, 16) };
+    let length = if r.percent(wrong) { r.pick(&[0, 33, 34, 64, 255, 256, 257, 288, 65_537]) } else { r.between(1, 32) };
+    let mut label = label(r, length);
+    if length > 0 && r.percent(wrong) {
+        let at = r.below(length);
+        label[at] = r.pick(&[0, 9, 31, 32, 127, 128, 255]);
+    }
+    let whole = if r.percent(3) { r.pick(&[4095, 4096, 4097, 4098, 8192]) } else { r.below(12) };
+    let odd = if r.percent(wrong) { r.between(1, 7) } else { 0 };
+    let records: Vec<u8> = (0..8 * whole + odd).map(|_| r.below(256) as u8).collect();
+    let size = 6 + label.len() + records.len();
+    let room = match r.below(10) {
+        0..=3 => size,
+        4 | 5 => size - 1,
+        6 => size + 1,
+        7 => size + r.below(40),
+        8 => r.below(size),
+        _ => r.below(12),
+    };
+    let buffer = (0..room).map(|_| r.below(256) as u8).collect();
+    Handed { buffer, n: n as u8, m: m as u8, label, records }
 }
 
 pub fn encode(step: Step) -> [u8; 8] {

@@ -1,5 +1,6 @@
-//! A second implementation of the program `drill`, written from document 01 alone. It reads a drill file from standard input and
-//! prints what document 01 says. The comparison in compare.rs uses it as a module and also looks at the trace that it keeps.
+//! A second implementation of the program `drill` and of the writer, written from documents 01 and 02 alone. It reads a drill file from
+//! standard input and prints what document 01 says. The comparisons in compare.rs and write.rs use it as a module; the first also looks
+//! at the trace that it keeps.
 #![allow(dead_code)]
 
 use std::fmt::Write as _;
@@ -319,6 +320,25 @@ pub fn parts(file: &[u8]) -> Result<Parts<'_>, Refusal> {
         return Err(5);
     }
     Ok(Parts { n, m, label: std::str::from_utf8(label).expect("its bytes are 33 to 126"), records: rest.chunks(8) })
+}
+
+/// Document 02, wish 1: the file of these parts, for a buffer of that many bytes.
+pub fn write(room: usize, n: u8, m: u8, label: &[u8], records: &[u8]) -> Result<Vec<u8>, Refusal> {
+    let mut file = vec![0, 0, 1, n, m, label.len() as u8];
+    file.extend(label);
+    file.extend(records);
+    let after = (file.len() - 2) as u16;
+    file[..2].copy_from_slice(&after.to_be_bytes());
+    let turned_away = [
+        (3, n < 1 || n > 9 || m < 1 || m > 16),
+        (4, label.is_empty() || label.len() > 32 || label.iter().any(|b| *b < 33 || *b > 126)),
+        (5, records.len() % 8 != 0 || records.len() > 4096 * 8),
+        (18, room < file.len()),
+    ];
+    match turned_away.iter().find(|(_, applies)| *applies) {
+        Some((refusal, _)) => Err(*refusal),
+        None => Ok(file),
+    }
 }
 
 /// What became of a file whose records were played.

@@ -3,7 +3,8 @@ processors.
 
 The comparison, which uses the right reference, has to tell the faulty program from it, by what it prints or by how it ends. Where the
 fault names a claim of demand 3 that it breaks, a comparison that uses the faulty reference has to find that claim broken in its own
-trace. `full` looks for a broken claim with the other faults too, wants none, and prints a line for each fault.
+trace. A fault of the writer is put into the reference that the writer is compared with, and write.rs has to find the two different.
+`full` looks for a broken claim with the other faults too, wants none, and prints a line for each fault.
 """
 import concurrent.futures
 import os
@@ -17,14 +18,15 @@ sources, out, seed = pathlib.Path(sys.argv[1]), pathlib.Path(sys.argv[2]), sys.a
 full = sys.argv[4:] == ["full"]
 right = (sources / "reference.rs").read_text()
 text = (sources / "faults.txt").read_text()
-faults = re.findall(r"^# (.*)\nold: (.*)\nnew: (.*)\n(?:breaks: (\w+)\n)?", text + "\n", re.M)
+faults = re.findall(r"^# (.*)\nold: (.*)\nnew: (.*)\n(?:breaks: (\w+)\n)?(writer\n)?", text + "\n", re.M)
 assert len(faults) == len(re.findall(r"^old: ", text, re.M)), "faults.txt: an entry is not as its head says"
-named = {claim for _, _, _, claim in faults if claim}
+named = {claim for _, _, _, claim, _ in faults if claim}
 assert named == {"agreement", "validity", "abort", "shown"}, f"faults.txt breaks {sorted(named)}, which is not each claim"
 
 
 def rustc(folder, name, level):
-    words = ["rustc", "--edition", "2021", "-A", "warnings", "-C", f"opt-level={level}", "-o", folder / name, folder / f"{name}.rs"]
+    library = out.parent / "staticlib"
+    words = ["rustc", "--edition", "2021", "-A", "warnings", "-C", f"opt-level={level}", "-L", library, "-o", folder / name, folder / f"{name}.rs"]
     subprocess.run(words, check=True)
 
 
@@ -41,13 +43,22 @@ def broken_claim(folder):
     return found[1] if found else ""
 
 
+def writer_differs(folder):
+    """Whether the writer is told from that of the faulty reference."""
+    rustc(folder, "write", 1)
+    done = subprocess.run([folder / "write", "400", seed, folder / "left"], capture_output=True, text=True, timeout=300)
+    return done.returncode == 1 and "expected refusal" in done.stdout
+
+
 def try_fault(number):
     """Whether the fault is noticed, and the claim that it breaks; that is looked for where the fault names one."""
-    _, old, new, claim = faults[number]
+    _, old, new, claim, writer = faults[number]
     assert right.count(old) == 1, f"faults.txt: `{old}` stands not once in reference.rs"
     folder = out / "faulty" / str(number)
     shutil.copytree(sources, folder)
     (folder / "reference.rs").write_text(right.replace(old, new))
+    if writer:
+        return writer_differs(folder), ""
     rustc(folder, "reference", 1 if full else 0)
     said = first_difference(out / "compare", folder / "reference", folder / "left")
     noticed = re.search(r": expected\n.*^printed\n|: the program ended with", said, re.M | re.S)
@@ -57,7 +68,7 @@ def try_fault(number):
 shutil.rmtree(out / "faulty", ignore_errors=True)
 wrong = 0
 with concurrent.futures.ThreadPoolExecutor(os.cpu_count()) as pool:
-    for (why, _, _, claim), (noticed, broken) in zip(faults, pool.map(try_fault, range(len(faults)))):
+    for (why, _, _, claim, _), (noticed, broken) in zip(faults, pool.map(try_fault, range(len(faults)))):
         right_so = noticed and broken == claim
         wrong += not right_so
         if full or not right_so:

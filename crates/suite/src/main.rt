@@ -7,6 +7,7 @@ mod notation;
 mod say;
 mod show;
 mod text;
+mod write;
 
 // The longest case is one byte longer than a drill file may be.
 fn case(kind: u8, s: &[u8]) {
@@ -21,6 +22,7 @@ fn case(kind: u8, s: &[u8]) {
         b'r' => show::run(words, bytes),
         b'h' => show::by_hand(words, bytes),
         b'n' => show::new_floor(s, bytes),
+        b'w' => write::parts(s, bytes),
         _ => text::print(b"no such kind of case\n"),
     }
 }

@@ -2,6 +2,7 @@
 use crate::hand;
 use crate::say;
 use crate::text;
+use crate::write;
 use floor::Floor;
 
 // The records of a file: what stands behind its label.
@@ -9,7 +10,8 @@ fn records(file: &[u8]) -> &[u8] {
     text::from(file, text::byte_at(file, 5) as usize + 6)
 }
 
-// How many steps of a file were accepted, and the refusal, with the step that it turned back.
+// How many steps of a file were accepted, and the refusal, with the step that it turned back; and whether the file, if it is accepted,
+// is the same when it is written again.
 fn ended(file: &[u8], accepted: usize, refusal: u8) {
     text::fill(b"accepted %, ", &[accepted as u64]);
     say::refusal(refusal);
@@ -17,6 +19,7 @@ fn ended(file: &[u8], accepted: usize, refusal: u8) {
         text::print(b" of the step: ");
         say::record(text::record(records(file), accepted));
     }
+    write::accepted(file);
     text::print(b"\n");
 }
 

@@ -1,0 +1,116 @@
+// Writes drill files and says what came of it.
+use crate::say;
+use crate::text;
+use drill_file::Header;
+
+fn digit(x: u8) -> u8 {
+    if x < 10 {
+        return b'0' + x;
+    }
+    b'a' + x % 16 - 10
+}
+
+// Bytes, each as two hexadecimal digits behind a space.
+fn hex(s: &[u8]) {
+    let mut i = 0;
+    while i < s.len() {
+        text::print(&[b' ', digit(s[i] / 16), digit(s[i] % 16)]);
+        i += 1;
+    }
+}
+
+// The same; of more than 40 bytes the first 20 and the last 20.
+fn short_hex(s: &[u8]) {
+    if s.len() <= 40 {
+        hex(s);
+        return;
+    }
+    hex(text::up_to(s, 20));
+    text::print(b" ..");
+    hex(text::from(s, s.len() - 20));
+}
+
+fn same(a: &[u8], b: &[u8]) -> bool {
+    if a.len() != b.len() {
+        return false;
+    }
+    let mut i = 0;
+    while i < a.len() {
+        if a[i] != b[i] {
+            return false;
+        }
+        i += 1;
+    }
+    true
+}
+
+// The first so many bytes of a buffer.
+fn first(buffer: &mut [u8], room: usize) -> &mut [u8] {
+    if room < buffer.len() {
+        return &mut buffer[0..room];
+    }
+    buffer
+}
+
+// Writes a file of these parts, and shows the buffer: the file, a stroke, and what stands behind it.
+fn shown(buffer: &mut [u8], n: u8, m: u8, label: &[u8], records: &[u8]) {
+    let written = drill_file::write_file(buffer, n, m, label, records);
+    text::fill(b" -> size %, ", &[written.size as u64]);
+    say::refusal(written.refusal);
+    text::print(b"\n ");
+    short_hex(text::up_to(buffer, written.size));
+    text::print(b" /");
+    short_hex(text::from(buffer, written.size));
+    text::print(b"\n");
+}
+
+// The parts of a case: the buffer's size in two bytes, n, m, the label's length and the label; then the records.
+pub(crate) fn parts(words: &[u8], bytes: &[u8]) {
+    let mut buffer = [0xeeu8; 32816];
+    let room = text::word(0, 0, text::byte_at(bytes, 0), text::byte_at(bytes, 1)) as usize;
+    let end = 5 + text::byte_at(bytes, 4) as usize;
+    let n = text::byte_at(bytes, 2);
+    let m = text::byte_at(bytes, 3);
+    let label = text::from(text::up_to(bytes, end), 5);
+    text::print(words);
+    shown(
+        first(&mut buffer, room),
+        n,
+        m,
+        label,
+        text::from(bytes, end),
+    );
+}
+
+// Whether a file, taken apart and written into a buffer, is the same, and the bytes behind it are as they were: those of `before`.
+fn again(buffer: &mut [u8], before: &[u8], file: &[u8], n: u8, m: u8, start: usize) -> bool {
+    let label = drill_file::label(file);
+    let written = drill_file::write_file(buffer, n, m, label, text::from(file, start));
+    if written.size != file.len() {
+        return false;
+    }
+    if !same(text::up_to(buffer, file.len()), file) {
+        return false;
+    }
+    same(
+        text::from(buffer, file.len()),
+        text::from(before, file.len()),
+    )
+}
+
+// Says it of an accepted file.
+pub(crate) fn accepted(file: &[u8]) {
+    let header = drill_file::read_header(file);
+    match header {
+        Header::Refused(_) => {}
+        Header::Accepted { n, m, start, .. } => {
+            let before = [0xeeu8; 32816];
+            let mut buffer = [0xeeu8; 32816];
+            if again(&mut buffer, &before, file, n, m, start) {
+                text::print(b"; written again: the same");
+                return;
+            }
+            text::print(b"; written again: ANOTHER FILE");
+        }
+    }
+}
