@@ -8,7 +8,7 @@
  *
  * The record of a new box is all zero bytes. Any contents are accepted.
  *
- * The reply, which a read fills: BOX_REPLY_BYTES bytes, two 32-bit numbers, each big-endian.
+ * The reply, which a read fills: BOX_REPLY_BYTES bytes, two 32-bit numbers, each big-endian; all 0 where the read is outranked.
  *
  *     bytes 0 to 3     write rank
  *     bytes 4 to 7     value
@@ -37,12 +37,14 @@ extern "C" {
 
 /* The answers. */
 #define BOX_DONE 0u            /* read: the reply is filled; write: taken */
+#define BOX_OUTRANKED 100u     /* read: a higher rank was served; the record is as it was, and the reply is zeroed */
 #define BOX_NOT_TAKEN 100u     /* write: not taken, and the record is as it was */
 #define BOX_REFUSED_LENGTH 16u /* the record is not 12 bytes, or the reply is not 8 */
 #define BOX_REFUSED_ZERO 17u   /* the rank is 0, or the revision of a write is 0 */
 
-/* Read with a rank. The record's read rank becomes the larger of itself and the rank; write rank and value stay. The reply gets
- * write rank and value. Answers 0, 16 or 17. */
+/* Read with a rank. If read rank <= rank and write rank <= rank, the read rank becomes the rank, write rank and value stay, and the
+ * reply gets write rank and value. Otherwise the read is outranked: the record stays as it is, and all 8 bytes of the reply become 0.
+ * Answers 0 (done), 100 (outranked), 16 or 17. */
 uint32_t box_read(uint8_t *record, size_t record_len, uint32_t rank, uint8_t *reply, size_t reply_len);
 
 /* Write a revision with a rank. If read rank <= rank and write rank < rank, the write is taken: the write rank becomes the rank,

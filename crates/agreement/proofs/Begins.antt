@@ -64,6 +64,7 @@ module _ {f : Floor} {l : History} (s : Shows f l) (y : Lengths f) (z : Sound f)
     reads = record {
       received = λ b m. clash m (bit-zero b);
       answered = λ b h. clash h (waiting-unanswered (f .n) b);
+      told = λ b h. clash h (waiting-unanswered (f .n) b);
       paired = λ b. rw (getD-same 9 b answer0) (λ e. refl, λ h. h);
     };
     writes = record {

@@ -10,14 +10,15 @@ use Rattle.base.specs.Choice.{if_then_else_}
 use Rattle.base.specs.Bytes.{Bytes}
 use Rattle.base.specs.Records.{AllRecords}
 use Rattle.base.proofs.Choices.{on-true, on-false}
-use Rattle.register.specs.Register.{rmwRead, rmwWrite}
+use Rattle.register.specs.Register.{isHeld, rankIn, valueIn, rmwRead, rmwWrite}
 use Rattle.register.specs.declared.Register.{Register}
 use Rattle.register.specs.declared.StorageBox.{StorageBox}
+use Rattle.register.specs.declared.ReadDone.{ReadDone}
 use Rattle.register.specs.declared.WriteDone.{WriteDone}
-use Rattle.register.proofs.RegisterLaws.{write-refused, write-answers}
+use Rattle.register.proofs.RegisterLaws.{outranked-kept, write-refused, write-answers}
 use Rattle.firmware.specs.Firmware.{encode, decode, replyOf, readAnswer, recordAfterRead, replyAfterRead, writeAnswer, recordAfterWrite}
 use Rattle.firmware.proofs.BoxRecordLaws.{decode-encode, encode-length, encode-bytes}
-use Rattle.firmware.proofs.CallLaws.{read-0, read-record, read-reply, write-0, write-100, write-record, write-kept}
+use Rattle.firmware.proofs.CallLaws.{read-0, read-100, read-record, read-kept, read-reply, write-0, write-100, write-record, write-kept}
 use Rattle.requests.specs.Requests.{slot0, slotAt}
 use Rattle.requests.specs.declared.Phase.{Phase}
 use Rattle.requests.specs.declared.Phase.the-variants.{Read, Write}
@@ -52,16 +53,34 @@ use Rattle.agreement.proofs.Widths.{FloorFits, fits-at, new-fits}
 -- a call on the 12 bytes of a register does what the routine by value does to it
 module _ (x : Register) (r : ℕ) (n : ¬ (r ≡ 0)) where
   module _ (p : List ℕ) (h : length p ≡ 8) where
-    read-returns : 0 ≡ readAnswer (encode x) r p
-    read-returns = read-0 (encode x) r p (encode-length x) h n
+    abbrev got : ReadDone
+    got = rmwRead x r
 
-    read-changes : recordAfterRead (encode x) r p ≡ encode (rmwRead x r .register)
-    read-changes = sym (read-record (encode x) r p read-returns) ∙ ap (λ (y : Register). encode (rmwRead y r .register)) (decode-encode x)
+    same-read : rmwRead (decode (encode x)) r ≡ got
+    same-read = ap (λ (y : Register). rmwRead y r) (decode-encode x)
 
-    read-answers : replyAfterRead (encode x) r p ≡ replyOf (rmwRead x r .rank) (rmwRead x r .value)
+    record Asked : Type 0 where
+      returns : readAnswer (encode x) r p ≡ (if isHeld (got .answer) then 0 else 100)
+      changes : recordAfterRead (encode x) r p ≡ encode (got .register)
+
+    asked : (t : Bool) → isHeld (got .answer) ≡ t → Asked
+    asked true t =
+        let e = read-0 (encode x) r p (encode-length x) h n (ap (λ (y : ReadDone). isHeld (y .answer)) same-read ∙ t) in
+        record {
+          returns = sym e ∙ on-true _ t refl;
+          changes = sym (read-record (encode x) r p e) ∙ ap (λ (y : ReadDone). encode (y .register)) same-read;
+        }
+    asked false t =
+        let e = read-100 (encode x) r p (encode-length x) h n (ap (λ (y : ReadDone). isHeld (y .answer)) same-read ∙ t) in
+        record {
+          returns = sym e ∙ on-false _ t refl;
+          changes = sym (read-kept (encode x) r p 100 refl e) ∙ ap encode (sym (outranked-kept x r t));
+        }
+
+    read-answers : replyAfterRead (encode x) r p ≡ replyOf (rankIn (got .answer)) (valueIn (got .answer))
     read-answers =
-        sym (read-reply (encode x) r p read-returns)
-        ∙ ap (λ (y : Register). replyOf (rmwRead y r .rank) (rmwRead y r .value)) (decode-encode x)
+        sym (read-reply (encode x) r p (encode-length x) h n)
+        ∙ ap (λ (y : ReadDone). replyOf (rankIn (y .answer)) (valueIn (y .answer))) same-read
 
   module _ (v : ℕ) (m : ¬ (v ≡ 0)) where
     abbrev done : WriteDone
@@ -125,9 +144,13 @@ module _ (f : Floor) (l : List (List ℕ)) (new : New f) (z : Sound f) (a i : �
       let y : answerAt f l a b (suc i) ≡ answerOf (rmwRead held (w .rank)) =
       ap (λ (v : Row). getD (v .answers) b answer0) (x .row) ∙ ap (λ (p : Phase). getD (rowServed p w held b .answers) b answer0) q
       ∙ getD-set-same (w .answers) b _ answer0 (omega (arith, place, reached-at f l new i .lengths .answers a row-place)) in
+      let t : slotAt (rowAt (floorAt f l (suc i)) a .read) b .ok ≡ isHeld (rmwRead held (w .rank) .answer) =
+      ap (λ (v : Row). slotAt (v .read) b .ok) (x .row) ∙ ap (λ (p : Phase). slotAt (rowServed p w held b .read) b .ok) q
+      ∙ ap (λ (v : Slot). v .ok) (getD-set-same (w .read .slots) b _ slot0 (omega (arith, place, reached-at f l new i .lengths .slots Read a row-place))) in
+      let c = asked held (w .rank) rank-positive reply h _ refl in
       record {
-        returns = sym (read-returns held (w .rank) rank-positive reply h);
-        changes = read-changes held (w .rank) rank-positive reply h ∙ ap encode (sym s);
+        returns = c .returns ∙ ap (λ (u : Bool). if u then 0 else 100) (sym t);
+        changes = c .changes ∙ ap encode (sym s);
         answers = read-answers held (w .rank) rank-positive reply h ∙ ap (λ (v : Answer). replyOf (v .rank) (v .value)) (sym y);
       }
   call Write q =

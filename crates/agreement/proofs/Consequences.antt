@@ -11,7 +11,9 @@ use borrow.Author.Tests.{lt-leb}
 use Rattle.base.specs.Choice.{if_then_else_}
 use Rattle.base.proofs.Choices.{on-true, on-false}
 use Rattle.floor.specs.Floors.{stationAt}
-use Rattle.attempts.specs.Stations.{isGone, isBusy}
+use Rattle.requests.specs.declared.Phase.{Phase}
+use Rattle.requests.specs.declared.Phase.the-variants.{Read, Write}
+use Rattle.attempts.specs.Stations.{isGone, isBusy, isIn}
 use Rattle.floor.specs.Claims.{Sound, StationMove, station-kept, station-begins, station-issues, station-decides, station-aborts, station-leaves}
 use Rattle.commands.specs.Commands.{commandOf}
 use Rattle.floor.specs.Refusals.{beginRefusal}
@@ -81,13 +83,18 @@ begin-over f z s r v h (Writing a) e o = clash o refl
 begin-over f z s r v h (Decided a) e o = inr (begin-busy f z s r v h (ap isGone e) (ap isBusy e))
 begin-over f z s r v h Gone e o = inl (begin-gone f z s r v h (ap isGone e))
 
+-- a station that is in an attempt is neither
+not-over : (f : Phase) (p : State) (a : ℕ) → isIn f p a ≡ true → isOver p ≡ false
+not-over Read p a e = ap isOver (is-reading p a e)
+not-over Write p a e = ap isOver (is-writing p a e)
+
 -- it stays so at every step
 over-stays : {f : Floor} {c : Command} {j : ℕ} {o : Outcome} {x : Station} → StationMove f c j o x → isOver (stationAt f j .state) ≡ true → isOver (x .state) ≡ true
 over-stays station-kept e = e
 over-stays {f} {j = j} (station-begins q g b l) e = clash e (ap isOver (is-idle (stationAt f j .state) g b))
 over-stays {f} {j = j} (station-issues {a = a} q u w r) e = clash e (ap isOver (is-reading (stationAt f j .state) a r))
 over-stays (station-decides q u w r v) e = refl
-over-stays {f} {j = j} (station-aborts {a = a} q u w r) e = clash e (ap isOver (is-writing (stationAt f j .state) a r))
+over-stays {f} {j = j} (station-aborts {p = p} {a = a} q u w r) e = clash e (not-over p (stationAt f j .state) a r)
 over-stays (station-leaves q g) e = refl
 
 module _ (f : Floor) (l : List (List ℕ)) (new : New f) where

@@ -1,14 +1,15 @@
--- The delivery of a write answer that is the q-th: it decides a revision that a majority took, or aborts a
--- write that a box refused.
+-- The delivery of an answer that ends its phase: the q-th write answer decides a revision that a majority took; any answer aborts an
+-- attempt whose read a box told to be outranked, and the q-th one whose write a box refused.
 use Prim.Native.Nat.{ℕ}
 use native.Mathlib.Omega.{arith}
 use mathlib.Core.Path.{_≡_, refl}
 use mathlib.Core.Bool.{true, false}
 use mathlib.Core.List.{List·Memᴰ}
 use Rattle.protocol.specs.View.{Chosen}
-use Rattle.protocol.specs.Trace.{took, refused, note, other-event}
+use Rattle.protocol.specs.Trace.{nack, took, refused, note, other-event}
 use Rattle.requests.specs.Requests.{atQuorum, allYes}
-use Rattle.requests.specs.declared.Phase.the-variants.{Write}
+use Rattle.requests.specs.declared.Phase.{Phase}
+use Rattle.requests.specs.declared.Phase.the-variants.{Read, Write}
 use Rattle.floor.specs.Floors.{rowAt, ownerAt}
 use Rattle.attempts.specs.Stations.{isWriting, withState}
 use Rattle.floor.specs.Claims.{Sound, Lengths, CanDeliver}
@@ -37,11 +38,20 @@ module _ {f : Floor} {l : History} (s : Shows f l) (a b : ℕ) (d : CanDeliver f
     taken = quorum-majority (w .write) (f .n) q (λ c h m. shown .writes .taken c (shown .writes .received c m) (yes-means (w .write) (f .n) t c h m));
   }
 
-  -- a write that is aborted was refused at a box, and not taken there
+  -- an attempt that aborts with its writes: one was refused at a box, and not taken there
   pub abort-refused : allYes (w .write) (f .n) ≡ false → (c : ℕ) × List·Memᴰ (refused (rowAt f a .rank) c) l × (¬ List·Memᴰ (took (rowAt f a .rank) c) l)
   abort-refused t =
       let m = yes-not (w .write) (f .n) t in
       (m .0, shown .writes .refusal (m .0) (shown .writes .received (m .0) (m .2)) (m .3), λ o. clash (shown .writes .only (m .0) o .1) (m .3))
+
+-- one that aborts with its reads: a box told that it is outranked
+pub abort-told : {f : Floor} {l : History} → Shows f l → (a b : ℕ) → CanDeliver f Read a b → allYes (heardRow f Read a b .read) (f .n) ≡ false
+    → (c : ℕ) × List·Memᴰ (nack (rowAt f a .rank) c) l
+abort-told {f} s a b d t =
+    let w = heardRow f Read a b in
+    let r = heard-shows s Read a b d .reads in
+    let m = yes-not (w .read) (f .n) t in
+    (m .0, r .told (m .0) (r .received (m .0) (m .2)) (m .3))
 
 -- what it leads to
 module _ {f : Floor} {l : History} (s : Shows f l) (y : Lengths f) (z : Sound f) (a b : ℕ) (d : CanDeliver f Write a b) where
@@ -52,9 +62,9 @@ module _ {f : Floor} {l : History} (s : Shows f l) (y : Lengths f) (z : Sound f)
         (row-more (note quiet) (λ e. omega arith) (shown s a b d)) (owner-writes s a (d .used) r);
   }
 
-  pub abort-step : StepTo f l (afterAbort f a (heardRow f Write a b)) (note quiet)
-  abort-step = record {
-    step = other-event (λ j. refl);
-    shows = row-moved s y z a (d .used) (heardRow f Write a b) refl (withState (ownerAt f a) Idle) refl (note quiet) (λ k e. absurd (omega arith))
-        (row-more (note quiet) (λ e. omega arith) (shown s a b d)) tt;
-  }
+pub abort-step : {f : Floor} {l : History} → Shows f l → Lengths f → Sound f → (p : Phase) (a b : ℕ) → CanDeliver f p a b → StepTo f l (afterAbort f a (heardRow f p a b)) (note quiet)
+abort-step {f} s y z p a b d = record {
+  step = other-event (λ j. refl);
+  shows = row-moved s y z a (d .used) (heardRow f p a b) refl (withState (ownerAt f a) Idle) refl (note quiet) (λ k e. absurd (omega arith))
+      (row-more (note quiet) (λ e. omega arith) (heard-shows s p a b d)) tt;
+}

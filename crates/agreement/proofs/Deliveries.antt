@@ -41,6 +41,7 @@ heard-row {w} r Read b h = record {
   reads = record {
     received = added (λ j. isAnswered (slotAt (w .read) j .stage) ≡ true) (w .read .heard) b (r .reads .received) h;
     answered = r .reads .answered;
+    told = r .reads .told;
     paired = r .reads .paired;
   };
   writes = r .writes;

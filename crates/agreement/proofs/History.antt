@@ -7,7 +7,7 @@ use mathlib.Core.Bool.{Bool, true, false}
 use mathlib.Core.List.{List, _∷_, List·Memᴰ, List·Memᴰ·tail, List·Memᴰ·cases-cons}
 use lib.ListN.{length, getD, set}
 use Rattle.register.specs.declared.StorageBox.{StorageBox}
-use Rattle.protocol.specs.Trace.{Box, Event, read, issued, took, refused, note}
+use Rattle.protocol.specs.Trace.{Box, Event, read, nack, issued, took, refused, note}
 use Rattle.protocol.specs.Claims.{Persistent}
 use Rattle.requests.specs.Requests.{slot0, slotAt, heardFrom, slotWaiting, waitingBelow, issuedTo}
 use Rattle.requests.specs.declared.Slot.{Slot}
@@ -56,6 +56,7 @@ registersOf f b = toBox (boxAt f b)
 -- 1 more than the rank at which an event issues or takes a write; 0 for every other event
 abbrev pub writerOf : Happening → ℕ
 writerOf (read r b w v) = 0
+writerOf (nack r b) = 0
 writerOf (issued r v) = suc r
 writerOf (took r b) = suc r
 writerOf (refused r b) = 0
@@ -89,10 +90,13 @@ abbrev pub Paired : ℕ → ℕ → Type 0
 Paired w x = (w ≡ 0 → x ≡ 0) × (0 < w → 0 < x)
 
 -- The relation, part by part. Its parameters are values and not places of the floor, so that what a step leaves alone is handed on as
--- it is. The reads of a row: what was received was answered, and each answer was given at that box.
+-- it is. The reads of a row: what was received was answered, and each answer was given at that box: what it held, or that the read was
+-- outranked.
 pub record ReadsShow (rank : ℕ) (requests : Requests) (answers : List Answer) (l : History) : Type 0 where
   pub received : (b : ℕ) → heardFrom requests b ≡ true → isAnswered (slotAt requests b .stage) ≡ true
-  pub answered : (b : ℕ) → isAnswered (slotAt requests b .stage) ≡ true → List·Memᴰ (read rank b (getD answers b answer0 .rank) (getD answers b answer0 .value)) l
+  pub answered : (b : ℕ) → isAnswered (slotAt requests b .stage) ≡ true → slotAt requests b .ok ≡ true
+      → List·Memᴰ (read rank b (getD answers b answer0 .rank) (getD answers b answer0 .value)) l
+  pub told : (b : ℕ) → isAnswered (slotAt requests b .stage) ≡ true → slotAt requests b .ok ≡ false → List·Memᴰ (nack rank b) l
   pub paired : (b : ℕ) → Paired (getD answers b answer0 .rank) (getD answers b answer0 .value)
 
 -- The writes of a row: they were issued with the row's revision, and each answer was given at that box; no other write of this rank
@@ -135,7 +139,12 @@ pub record Shows (f : Floor) (l : History) : Type 0 where
 -- one event more
 module _ {l : History} (e : Happening) where
   pub reads-more : {rank : ℕ} {requests : Requests} {answers : List Answer} → ReadsShow rank requests answers l → ReadsShow rank requests answers (e ∷ l)
-  reads-more s = record { received = s .received; answered = λ b h. List·Memᴰ·tail (s .answered b h); paired = s .paired }
+  reads-more s = record {
+    received = s .received;
+    answered = λ b h t. List·Memᴰ·tail (s .answered b h t);
+    told = λ b h t. List·Memᴰ·tail (s .told b h t);
+    paired = s .paired;
+  }
 
   pub writes-more : {rank written : ℕ} {requests : Requests} → ¬ (writerOf e ≡ suc rank)
       → WritesShow rank written requests l → WritesShow rank written requests (e ∷ l)

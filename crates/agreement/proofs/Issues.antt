@@ -1,4 +1,4 @@
--- The delivery of a read answer that is the q-th: it issues a write that the theory allows.
+-- The delivery of a read answer that is the q-th, none of them outranked: it issues a write that the theory allows.
 use Prim.Native.Nat.{ℕ, _<_}
 use native.Mathlib.Nat.{eq-zero-or-pos}
 use native.Mathlib.Omega.{arith}
@@ -10,9 +10,9 @@ use lib.ListN.{getD, set}
 use Rattle.protocol.specs.View.{MayIssue}
 use Rattle.protocol.specs.Trace.{read, issued, took, issue}
 use Rattle.base.proofs.MaskLaws.{bit-zero}
-use Rattle.requests.specs.Requests.{heardFrom, atQuorum}
+use Rattle.requests.specs.Requests.{heardFrom, atQuorum, allYes}
 use Rattle.requests.specs.declared.Phase.the-variants.{Read}
-use Rattle.requests.proofs.RequestLaws.{quorum-majority}
+use Rattle.requests.proofs.RequestLaws.{quorum-majority, yes-means}
 use Rattle.attempts.specs.Rows.{row0, answer0, noBest, bestFrom, bestOf, revisionFrom, revisionOf}
 use Rattle.attempts.specs.Stations.{isReading, withState}
 use Rattle.floor.specs.Claims.{Sound, Lengths, CanDeliver}
@@ -43,9 +43,10 @@ module _ {f : Floor} {l : History} (s : Shows f l) (y : Lengths f) (z : Sound f)
   shown : RowShows w l
   shown = heard-shows s Read a b d
 
-  module _ (reads : isReading (ownerAt f a .state) a ≡ true) (q : atQuorum (w .read) (f .n) ≡ true) where
-    read-of : (j : ℕ) → heardFrom (w .read) j ≡ true → List·Memᴰ (read (w .rank) j (answerAt w j .rank) (answerAt w j .value)) l
-    read-of j h = shown .reads .answered j (shown .reads .received j h)
+  module _ (reads : isReading (ownerAt f a .state) a ≡ true) (q : atQuorum (w .read) (f .n) ≡ true)
+      (t : allYes (w .read) (f .n) ≡ true) where
+    read-of : (j : ℕ) → j < f .n → heardFrom (w .read) j ≡ true → List·Memᴰ (read (w .rank) j (answerAt w j .rank) (answerAt w j .value)) l
+    read-of j k h = shown .reads .answered j (shown .reads .received j h) (yes-means (w .read) (f .n) t j k h)
 
     -- what the best answer allows
     may-issue : {x : Best} → Found (w .answers) (w .read) (f .n) x → MayIssue (f .n) _≡_ (viewOf f l) (w .rank) (revisionFrom x (w .offer))
@@ -60,8 +61,8 @@ module _ {f : Floor} {l : History} (s : Shows f l) (y : Lengths f) (z : Sound f)
       rank = answerAt w c .rank;
       value = answerAt w c .value;
       read = record {
-        majority = quorum-majority (w .read) (f .n) q (λ j k i. record { rank = answerAt w j .rank; value = answerAt w j .value; read = read-of j i; at-most = top j k i });
-        highest = λ p. (c, read-of c m);
+        majority = quorum-majority (w .read) (f .n) q (λ j k i. record { rank = answerAt w j .rank; value = answerAt w j .value; read = read-of j k i; at-most = top j k i });
+        highest = λ p. (c, read-of c h m);
       };
       follows = λ p. sym (revision-value (bestFrom (answerAt w c)) (w .offer) (shown .reads .paired c .1 p));
       offered = λ k. elim (eq-zero-or-pos (answerAt w c .rank)) [

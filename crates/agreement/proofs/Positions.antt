@@ -40,7 +40,7 @@ begun-then (turned k t) a h u = absurd (h u)
 begun-then {f} (began z d) a h u = let e : f .used ≡ a = omega arith in ap said.Begun e
 begun-then (served z d) a h u = absurd (h u)
 begun-then (heard z d q) a h u = absurd (h u)
-begun-then (issued z d r q) a h u = absurd (h u)
+begun-then (issued z d r q t) a h u = absurd (h u)
 begun-then (decided z d r q t) a h u = absurd (h u)
 begun-then (aborted z d r q t) a h u = absurd (h u)
 begun-then (stopped z d) a h u = absurd (h u)

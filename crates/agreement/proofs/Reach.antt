@@ -6,10 +6,12 @@ use mathlib.Core.Bool.{Bool, true, false}
 use mathlib.Core.List.{[], _∷_, List·Memᴰ·not-nil}
 use Rattle.base.specs.Numbers.{sizesRight}
 use Rattle.base.proofs.Choices.{by-test}
-use Rattle.register.specs.Register.{rmwWrite, box0}
+use Rattle.register.specs.Register.{rmwRead, rmwWrite, box0}
+use Rattle.register.specs.declared.ReadAnswer.{ReadAnswer}
+use Rattle.register.specs.declared.ReadAnswer.the-variants.{Held, Outranked}
 use Rattle.register.specs.declared.StorageBox.{StorageBox}
 use Rattle.protocol.specs.Invariant.{Inv}
-use Rattle.protocol.specs.Trace.{read, issued, took, refused, note, other-event, Run, new, next}
+use Rattle.protocol.specs.Trace.{read, nack, issued, took, refused, note, other-event, Run, new, next}
 use Rattle.protocol.proofs.TraceLaws.{run-inv}
 use Rattle.protocol.proofs.Instances.{equality}
 use Rattle.requests.specs.declared.Phase.{Phase}
@@ -32,7 +34,7 @@ use Rattle.floor.proofs.StepCases as cases
 use Rattle.floor.proofs.Keeps.{empty-lengths}
 use Rattle.base.proofs.Stores.{set-all, getD-same}
 use Rattle.agreement.proofs.History.{offered, quiet, Happening, History, Offered, offered-stays, toBox, registersOf, stations-stored, last-stored, Shows, shows-kept}
-use Rattle.agreement.proofs.Serves.{StepTo, boxes-paired, wroteEvent, servedEvent, serve-step}
+use Rattle.agreement.proofs.Serves.{StepTo, boxes-paired, askedEvent, wroteEvent, servedEvent, serve-step}
 use Rattle.agreement.proofs.Deliveries.{viewOf, heard-step}
 use Rattle.agreement.proofs.Issues.{issue-step}
 use Rattle.agreement.proofs.Decisions.{decision-step, abort-step}
@@ -44,7 +46,7 @@ eventOf (turned k t) = note quiet
 eventOf (began {v = v} z d) = note (offered v)
 eventOf {f} (served {p = p} {a = a} {b = b} z d) = servedEvent f p a b
 eventOf (heard z d q) = note quiet
-eventOf {f} (cases.issued {a = a} {b = b} z d r q) = issued (rowAt f a .rank) (revisionOf (heardRow f Read a b) (f .n))
+eventOf {f} (cases.issued {a = a} {b = b} z d r q t) = issued (rowAt f a .rank) (revisionOf (heardRow f Read a b) (f .n))
 eventOf (decided z d r q t) = note quiet
 eventOf (aborted z d r q t) = note quiet
 eventOf (stopped z d) = note quiet
@@ -84,9 +86,9 @@ step-to w y (turned k t) = refused-step w
 step-to w y (began {s = s} {round = r} {v = v} z d) = begin-step w y z s r v d
 step-to w y (served {p = p} {a = a} {b = b} z d) = serve-step w y z a b p d
 step-to w y (heard {p = p} {a = a} {b = b} z d q) = heard-step w y z p a b d
-step-to w y (cases.issued {a = a} {b = b} z d r q) = issue-step w y z a b d r q
+step-to w y (cases.issued {a = a} {b = b} z d r q t) = issue-step w y z a b d r q t
 step-to w y (decided {a = a} {b = b} z d r q t) = decision-step w y z a b d r
-step-to w y (aborted {a = a} {b = b} z d r q t) = abort-step w y z a b d
+step-to w y (aborted {p = p} {a = a} {b = b} z d r q t) = abort-step w y z p a b d
 step-to w y (stopped {b = b} z d) = stop-step w b
 step-to w y (left {s = s} z d) = leave-step w y z s d
 
@@ -115,18 +117,23 @@ pub record Offering (c : Command) (o : Outcome) (v : ℕ) : Type 0 where
 
 abbrev pub Cause : Floor → Command → Outcome → Happening → Type 0
 Cause f c o (read r b w v) = Serving f c o r b
+Cause f c o (nack r b) = Unit {0}
 Cause f c o (issued r v) = Unit {0}
 Cause f c o (took r b) = Serving f c o r b
 Cause f c o (refused r b) = Unit {0}
 Cause f c o (note (offered v)) = Offering c o v
 Cause f c o (note quiet) = Unit {0}
 
+read-cause : (f : Floor) (a b : ℕ) → a < f .used → (v : ReadAnswer) → Cause f (Serve Read a b) (said.Served a) (askedEvent v (rowAt f a .rank) b)
+read-cause f a b h (Held w v) = record { attempt = a; used = h; rank = refl; phase = Read; asked = refl; accepted = refl }
+read-cause f a b h Outranked = tt
+
 write-cause : (f : Floor) (a b : ℕ) → a < f .used → (t : Bool) → Cause f (Serve Write a b) (said.Served a) (wroteEvent t (rowAt f a .rank) b)
 write-cause f a b h true = record { attempt = a; used = h; rank = refl; phase = Write; asked = refl; accepted = refl }
 write-cause f a b h false = tt
 
 serve-cause : (f : Floor) (p : Phase) (a b : ℕ) → a < f .used → Cause f (Serve p a b) (said.Served a) (servedEvent f p a b)
-serve-cause f Read a b h = record { attempt = a; used = h; rank = refl; phase = Read; asked = refl; accepted = refl }
+serve-cause f Read a b h = read-cause f a b h (rmwRead (boxAt f b .register) (rowAt f a .rank) .answer)
 serve-cause f Write a b h = write-cause f a b h (rmwWrite (boxAt f b .register) (rowAt f a .rank) (rowAt f a .written) .taken)
 
 pub cause : {f : Floor} {c : Command} {s : Stepped} → (x : StepCase f c s) → Cause f c (s .outcome) (eventOf x)
@@ -134,7 +141,7 @@ cause (turned k t) = tt
 cause (began {s = s} {round = r} {v = v} z d) = record { station = s; round = r; number = _; asked = refl; accepted = refl }
 cause {f} (served {p = p} {a = a} {b = b} z d) = serve-cause f p a b (d .used)
 cause (heard z d q) = tt
-cause (cases.issued z d r q) = tt
+cause (cases.issued z d r q t) = tt
 cause (decided z d r q t) = tt
 cause (aborted z d r q t) = tt
 cause (stopped z d) = tt

@@ -4,16 +4,21 @@ use native.Mathlib.Decide.{decLt}
 use native.Mathlib.Omega.{arith}
 use mathlib.Core.Path.{_≡_, refl, sym, ap, subst, _∙_}
 use mathlib.Core.Logic.{inl, inr}
+use mathlib.Core.Bool.{false}
 use mathlib.Core.List.{List, List·Memᴰ}
 use Rattle.base.specs.Quorum.{Majority}
 use Rattle.protocol.specs.View.{Chosen}
-use Rattle.protocol.specs.Trace.{read, took, note, Served, by-read, by-write}
+use Rattle.protocol.specs.Trace.{read, took, note, Served, by-read, by-write, Outranked}
 use Rattle.base.proofs.QuorumLaws.{majority-map}
-use Rattle.protocol.proofs.TraceLaws.{outranked}
+use Rattle.protocol.proofs.TraceLaws.{outranked, nack-outranked}
 use Rattle.protocol.proofs.Instances.{consensus}
-use Rattle.requests.specs.declared.Phase.the-variants.{Write}
+use Rattle.requests.specs.Requests.{allYes}
+use Rattle.requests.specs.declared.Phase.{Phase}
+use Rattle.requests.specs.declared.Phase.the-variants.{Read, Write}
 use Rattle.floor.specs.Floors.{stationAt, rowAt}
 use Rattle.floor.specs.Step.{stepOf}
+use Rattle.floor.specs.Claims.{CanDeliver}
+use Rattle.attempts.specs.Rows.{requestsHeard}
 use Rattle.attempts.specs.declared.State.the-variants.{Decided}
 use Rattle.attempts.specs.declared.Station.{Station}
 use Rattle.floor.specs.declared.Floor.{Floor}
@@ -25,7 +30,7 @@ use Rattle.floor.specs.Runs.{floorAt, saidAt}
 use Rattle.agreement.specs.Demand.{firstFloor, Safety}
 use Rattle.agreement.proofs.History.{offered, Offered}
 use Rattle.agreement.proofs.Deliveries.{viewOf, owner-writes}
-use Rattle.agreement.proofs.Decisions.{decision-chosen, abort-refused}
+use Rattle.agreement.proofs.Decisions.{decision-chosen, abort-refused, abort-told}
 use Rattle.agreement.proofs.Reach.{reached-inv, Serving, New, new-floor}
 use Rattle.base.proofs.Cases.{up-to}
 use Rattle.agreement.proofs.Positions.{later, now, history, caused, still-happened, size-at, reached-at, means-at, row-at}
@@ -103,25 +108,36 @@ module _ (f : Floor) (l : List (List ℕ)) where
     served-before i r b (by-write m) =
         let x = caused f l (took r b) i m in record { at = x .at; earlier = x .earlier; holds = served-at (x .at) r b (x .holds) }
 
+    -- what outranked an attempt that aborts: where its reads end, at a box that told so; where its writes end, at a box that refused
+    outranked-by : (i a b : ℕ) (p : Phase) → CanDeliver (floorAt f l i) p a b → allYes (requestsHeard p (rowAt (floorAt f l i) a) b) (floorAt f l i .n) ≡ false
+        → (c : ℕ) × Outranked (history f l i) (rowAt (floorAt f l i) a .rank) c
+    outranked-by i a b Read d t =
+        let k = reached-at f l new i in
+        let c = abort-told (k .shows) a b d t in
+        (c .0, nack-outranked (floorAt f l i .n) _≡_ Offered (k .run) (rowAt (floorAt f l i) a .rank) (c .0) (c .1))
+    outranked-by i a b Write d t =
+        let k = reached-at f l new i in
+        let c = abort-refused (k .shows) a b d t in
+        (c .0, outranked (floorAt f l i .n) _≡_ Offered (k .run) (rowAt (floorAt f l i) a .rank) (c .0) (k .shows .rows a (d .used) .positive) (c .1) (c .2))
+
     abort : (i a : ℕ) → saidAt f l i ≡ said.Aborted a → OutrankedAt f l i
     abort i a e =
         let m = means-at f l new i (said.Aborted a) e in
-        let o = row-at f l new i a (m .answer .may .used) in
-        let k = reached-at f l new i in
-        let c = abort-refused (k .shows) a (m .box) (m .answer .may) (m .taken) in
-        let y = outranked (floorAt f l i .n) _≡_ Offered (k .run) (rowAt (floorAt f l i) a .rank) (c .0) (k .shows .rows a (m .answer .may .used) .positive) (c .1) (c .2) in
+        let o = row-at f l new i a (m .may .used) in
+        let c = outranked-by i a (m .box) (m .phase) (m .may) (m .no) in
         record {
           attempt = o .attempt;
           aborts = record {
             named = o .named;
+            phase = m .phase;
             box = m .box;
-            asked = m .answer .command ∙ ap (λ (x : ℕ). Deliver Write x (m .box)) (sym (o .number));
+            asked = m .command ∙ ap (λ (x : ℕ). Deliver (m .phase) x (m .box)) (sym (o .number));
             accepted = e ∙ ap said.Aborted (sym (o .number));
           };
-          rank = y .rank;
+          rank = c .1 .rank;
           box = c .0;
-          higher = omega (arith, y .higher, o .rank);
-          served = served-before i (y .rank) (c .0) (y .served);
+          higher = omega (arith, c .1 .higher, o .rank);
+          served = served-before i (c .1 .rank) (c .0) (c .1 .served);
         }
 
     -- the delivery that says decided, of an attempt whose row is the station's

@@ -1,26 +1,29 @@
 -- A serve is a step of the theory, and the floor after it shows the history with it.
 use Prim.Native.Nat.{ℕ, suc, _≤_, _<_}
-use native.Mathlib.Nat.{le-refl}
+use native.Mathlib.Nat.{le-refl, max-eq-right}
 use native.Mathlib.Omega.{arith}
 use mathlib.Core.Path.{_≡_, refl, sym, ap, _∙_}
 use mathlib.Core.Logic.{_⊎_, inl, inr}
 use mathlib.Core.Bool.{Bool, true, false}
 use mathlib.Core.List.{_∷_, List·Memᴰ, List·Memᴰ·head, List·Memᴰ·tail, List·Memᴰ·cases-cons}
-use lib.ListN.{getD, set}
-use lib.Seq.{getD-set-same}
+use lib.ListN.{length, getD, set}
+use lib.Seq.{getD-set-same, getD-set-other}
 use Rattle.base.proofs.Choices.{by-test}
-use Rattle.register.specs.Register.{rmwRead, takes, rmwWrite, box0, withRegister}
+use Rattle.register.specs.Register.{isHeld, rankIn, valueIn, rmwRead, takes, rmwWrite, box0, withRegister}
 use Rattle.register.specs.declared.Register.{Register}
 use Rattle.register.specs.declared.StorageBox.{StorageBox}
+use Rattle.register.specs.declared.ReadAnswer.{ReadAnswer}
+use Rattle.register.specs.declared.ReadAnswer.the-variants.{Held, Outranked}
+use Rattle.register.specs.declared.ReadDone.{ReadDone}
 use Rattle.register.specs.declared.WriteDone.{WriteDone}
-use Rattle.register.proofs.RegisterLaws.{takes-means, takes-not}
-use Rattle.protocol.specs.Trace.{Box, readBox, writeBox, read, took, refused, Edit, there, other, Step, serve-read, take, refuse}
+use Rattle.register.proofs.RegisterLaws.{ReadCase, outranked, answered, read-case, takes-means, takes-not}
+use Rattle.protocol.specs.Trace.{Box, readBox, writeBox, read, nack, took, refused, Edit, there, other, Step, serve-read, serve-nack, take, refuse}
 use Rattle.requests.specs.Requests.{ofPhase, slot0, slotAt, heardFrom, servedAt}
 use Rattle.requests.specs.declared.Phase.{Phase}
 use Rattle.requests.specs.declared.Phase.the-variants.{Read, Write}
 use Rattle.requests.specs.declared.Slot.{Slot}
 use Rattle.requests.specs.declared.Requests.{Requests}
-use Rattle.attempts.specs.Rows.{answer0, withRequests, answerOf, rowServed}
+use Rattle.attempts.specs.Rows.{answer0, withRequests, answerOf}
 use Rattle.floor.specs.Floors.{boxAt, stationAt, rowAt, withBox, withRow}
 use Rattle.floor.specs.Claims.{Sound, Lengths, CanServe}
 use Rattle.requests.specs.declared.Stage.the-variants.{Answered}
@@ -57,8 +60,13 @@ pub stations-kept : {f : Floor} {l : History} → Shows f l → (a : ℕ) (w : R
 stations-kept {f} s a w p q j =
     station-kept-by (f .used) (f .used) (f .rows) a w j (stationAt f j .decided) (le-refl (f .used)) (λ _ h. (p ∙ h, q)) (stationAt f j .state) (s .stations j)
 
+-- the read of rank r was served at the box b: answered, or told that it is outranked
+abbrev pub askedEvent : ReadAnswer → ℕ → ℕ → Happening
+askedEvent (Held w v) r b = read r b w v
+askedEvent Outranked r b = nack r b
+
 abbrev pub readEvent : Floor → ℕ → ℕ → Happening
-readEvent f a b = read (rowAt f a .rank) b (boxAt f b .register .write) (boxAt f b .register .value)
+readEvent f a b = askedEvent (rmwRead (boxAt f b .register) (rowAt f a .rank) .answer) (rowAt f a .rank) b
 
 -- the write of rank r was served at the box b: taken or not
 abbrev pub wroteEvent : Bool → ℕ → ℕ → Happening
@@ -91,49 +99,100 @@ write-view x r v = by-test (Written x r v) (takes x r) _ _ (λ e. let p = takes-
 
 module _ {f : Floor} {l : History} (s : Shows f l) (y : Lengths f) (z : Sound f) (a b : ℕ) where
   module _ (d : CanServe f Read a b) where
-    abbrev answer : Answer
-    answer = answerOf (rmwRead (boxAt f b .register) (rowAt f a .rank))
+    abbrev asked : ℕ
+    asked = rowAt f a .rank
 
-    abbrev ReadAt : ℕ → Answer → Type 0
-    ReadAt j x = List·Memᴰ (read (rowAt f a .rank) j (x .rank) (x .value)) (readEvent f a b ∷ l)
+    -- the row and the floor after the read was served, by what the register did
+    abbrev rowAsked : ReadDone → Row
+    rowAsked x =
+        record {
+          station = rowAt f a .station;
+          rank = rowAt f a .rank;
+          offer = rowAt f a .offer;
+          written = rowAt f a .written;
+          read = servedAt (rowAt f a .read) b (isHeld (x .answer));
+          answers = set (rowAt f a .answers) b (answerOf x);
+          write = rowAt f a .write;
+        }
 
-    -- the answer of box b is new, the others were given before
-    answer-now : ReadAt b (getD (set (rowAt f a .answers) b answer) b answer0)
-    unfolding rmwRead
-    answer-now =
-        rw (getD-set-same (rowAt f a .answers) b answer answer0 (omega (arith, y .answers a (omega (arith, d .used, z .rows-most)), d .box, z .box-most)))
-        (List·Memᴰ·head refl)
+    abbrev floorAsked : ReadDone → Floor
+    floorAsked x = withRow (withBox f b (withRegister (boxAt f b) (x .register))) a (rowAsked x)
 
-    answer-before : (j : ℕ) → isAnswered (slotAt (rowAt f a .read) j .stage) ≡ true → ReadAt j (getD (set (rowAt f a .answers) b answer) j answer0)
-    unfolding rmwRead
-    answer-before =
-        set-all answer0 (λ (j : ℕ) (x : Answer). isAnswered (slotAt (rowAt f a .read) j .stage) ≡ true → ReadAt j x) (rowAt f a .answers) b answer
-        (λ j h. List·Memᴰ·tail (s .rows a (d .used) .reads .answered j h)) (λ _. List·Memᴰ·head refl)
+    abbrev slotAsked : ReadDone → Slot
+    slotAsked x = record { stage = Answered; ok = isHeld (x .answer) }
 
-    read-row : RowShows (rowServed Read (rowAt f a) (boxAt f b .register) b) (readEvent f a b ∷ l)
-    unfolding rmwRead
-    read-row = let r = s .rows a (d .used) in record {
-      positive = r .positive;
-      place = r .place;
-      revision = r .revision;
-      offer = List·Memᴰ·tail (r .offer);
-      reads = record {
-        received = set-all slot0 (λ (j : ℕ) (x : Slot). heardFrom (rowAt f a .read) j ≡ true → isAnswered (x .stage) ≡ true) (rowAt f a .read .slots) b _
-            (r .reads .received) (λ _. refl);
-        answered = set-all slot0 (λ (j : ℕ) (x : Slot). isAnswered (x .stage) ≡ true → ReadAt j (getD (set (rowAt f a .answers) b answer) j answer0)) (rowAt f a .read .slots) b _
-            answer-before (λ _. answer-now);
-        paired = set-all answer0 (λ (j : ℕ) (x : Answer). Paired (x .rank) (x .value)) (rowAt f a .answers) b _ (r .reads .paired) (s .paired b);
-      };
-      writes = writes-more (readEvent f a b) (λ q. omega arith) (r .writes);
+    module _ (x : ReadDone) where
+      abbrev now : Happening
+      now = askedEvent (x .answer) asked b
+
+      abbrev ReadAt : ℕ → Answer → Type 0
+      ReadAt j y = List·Memᴰ (read asked j (y .rank) (y .value)) (now ∷ l)
+
+      -- the answer of box b is new, the others were given before
+      given : (v : ReadAnswer) → isHeld v ≡ true → List·Memᴰ (read asked b (rankIn v) (valueIn v)) (askedEvent v asked b ∷ l)
+      given (Held w v) e = List·Memᴰ·head refl
+      given Outranked e = clash e refl
+
+      told : (v : ReadAnswer) → isHeld v ≡ false → List·Memᴰ (nack asked b) (askedEvent v asked b ∷ l)
+      told (Held w v) e = clash refl e
+      told Outranked e = List·Memᴰ·head refl
+
+      silent : (v : ReadAnswer) → writerOf (askedEvent v asked b) ≡ 0
+      silent (Held w v) = refl
+      silent Outranked = refl
+
+      answer-now : isHeld (x .answer) ≡ true → ReadAt b (getD (set (rowAt f a .answers) b (answerOf x)) b answer0)
+      answer-now e =
+          rw (getD-set-same (rowAt f a .answers) b (answerOf x) answer0 (omega (arith, y .answers a (omega (arith, d .used, z .rows-most)), d .box, z .box-most)))
+          (given (x .answer) e)
+
+      answer-before : (j : ℕ) → ¬ (j ≡ b) → isAnswered (slotAt (rowAt f a .read) j .stage) ≡ true → slotAt (rowAt f a .read) j .ok ≡ true
+          → ReadAt j (getD (set (rowAt f a .answers) b (answerOf x)) j answer0)
+      answer-before j n h e =
+          rw (getD-set-other (rowAt f a .answers) b j (answerOf x) answer0 n) (List·Memᴰ·tail (s .rows a (d .used) .reads .answered j h e))
+
+      slots : length (rowAt f a .read .slots) ≡ 9
+      slots = y .slots Read a (omega (arith, d .used, z .rows-most))
+
+      asked-row : Paired (rankIn (x .answer)) (valueIn (x .answer)) → RowShows (rowAsked x) (now ∷ l)
+      asked-row p = let r = s .rows a (d .used) in record {
+        positive = r .positive;
+        place = r .place;
+        revision = r .revision;
+        offer = List·Memᴰ·tail (r .offer);
+        reads = record {
+          received = set-all slot0 (λ (j : ℕ) (i : Slot). heardFrom (rowAt f a .read) j ≡ true → isAnswered (i .stage) ≡ true) (rowAt f a .read .slots) b (slotAsked x)
+              (r .reads .received) (λ _. refl);
+          answered = set-in slot0 (λ (j : ℕ) (i : Slot). isAnswered (i .stage) ≡ true → i .ok ≡ true → ReadAt j (getD (set (rowAt f a .answers) b (answerOf x)) j answer0)) (rowAt f a .read .slots) b (slotAsked x)
+              (omega (arith, slots, d .box, z .box-most)) answer-before (λ _. answer-now);
+          told = set-all slot0 (λ (j : ℕ) (i : Slot). isAnswered (i .stage) ≡ true → i .ok ≡ false → List·Memᴰ (nack asked j) (now ∷ l)) (rowAt f a .read .slots) b (slotAsked x)
+              (λ j h e. List·Memᴰ·tail (r .reads .told j h e)) (λ _. told (x .answer));
+          paired = set-all answer0 (λ (j : ℕ) (i : Answer). Paired (i .rank) (i .value)) (rowAt f a .answers) b (answerOf x) (r .reads .paired) p;
+        };
+        writes = writes-more now (λ q. omega (arith, silent (x .answer))) (r .writes);
+      }
+
+      asked-shows : Paired (rankIn (x .answer)) (valueIn (x .answer)) → Paired (x .register .write) (x .register .value) → Shows (floorAsked x) (now ∷ l)
+      asked-shows p q =
+          shows-stored s now _ (f .stations) (boxes-paired s b (withRegister (boxAt f b) (x .register)) q) (λ j. refl)
+          y a (d .used) (z .rows-most) _ refl (λ r e. absurd (omega (arith, silent (x .answer)))) (asked-row p) (stations-kept s a _ refl refl)
+
+    serve-asked : {x : ReadDone} → ReadCase (boxAt f b .register) asked x → StepTo f l (floorAsked x) (askedEvent (x .answer) asked b)
+    serve-asked (outranked h) = record {
+      step = serve-nack (set-all box0 (λ (j : ℕ) (c : StorageBox). toBox c ≡ registersOf f j) (f .boxes) b (boxAt f b) (λ j. refl) refl) h;
+      shows = asked-shows (record { register = boxAt f b .register; answer = Outranked }) (λ _. refl, λ h. h) (s .paired b);
+    }
+    serve-asked (answered h k) = record {
+      step = serve-read (box-edit f b _ (omega (arith, d .box, z .box-most)) y (readBox asked)
+          (ap (λ (i : ℕ). record { readRank = i; writeRank = boxAt f b .register .write; value = boxAt f b .register .value }) (sym (max-eq-right h)))) refl refl;
+      shows = asked-shows (record {
+        register = record { read = asked; write = boxAt f b .register .write; value = boxAt f b .register .value };
+        answer = Held (boxAt f b .register .write) (boxAt f b .register .value);
+      }) (s .paired b) (s .paired b);
     }
 
     read-step : StepTo f l (afterServe f Read a b) (readEvent f a b)
-    unfolding rmwRead
-    read-step = record {
-      step = serve-read (box-edit f b _ (omega (arith, d .box, z .box-most)) y (readBox (rowAt f a .rank)) refl) refl refl;
-      shows = shows-stored s (readEvent f a b) _ (f .stations) (boxes-paired s b _ (s .paired b)) (λ j. refl)
-          y a (d .used) (z .rows-most) _ refl (λ r q. absurd (omega arith)) read-row (stations-kept s a _ refl refl);
-    }
+    read-step = serve-asked (read-case (boxAt f b .register) asked)
 
   module _ (d : CanServe f Write a b) where
     abbrev rank : ℕ

@@ -8,9 +8,11 @@ use Rattle.base.specs.Bytes.{Bytes}
 use Rattle.base.specs.Records.{AllRecords}
 use Rattle.base.proofs.Choices.{by-test}
 use Rattle.base.proofs.Stores.{set-all, getD-same}
-use Rattle.register.specs.Register.{box0, rmwRead}
+use Rattle.register.specs.Register.{box0}
 use Rattle.register.specs.declared.Register.{Register}
+use Rattle.register.specs.declared.ReadDone.{ReadDone}
 use Rattle.register.specs.declared.StorageBox.{StorageBox}
+use Rattle.register.proofs.RegisterLaws.{ReadCase, outranked, answered, read-case}
 use Rattle.firmware.specs.Claims.{Fits32}
 use Rattle.firmware.proofs.CallLaws.{read-fits, write-fits}
 use Rattle.requests.specs.declared.Phase.{Phase}
@@ -21,7 +23,7 @@ use Rattle.commands.specs.Claims.{Fielded}
 use Rattle.commands.specs.declared.Command.{Command}
 use Rattle.commands.specs.declared.Outcome.{Outcome}
 use Rattle.commands.proofs.Encodings.{decode-fielded}
-use Rattle.attempts.specs.Rows.{answer0, row0, unusedRow, newRow, rowServed, rowHeard, registerServed, revisionFrom, revisionOf, issued}
+use Rattle.attempts.specs.Rows.{answer0, answerOf, row0, unusedRow, newRow, rowServed, rowHeard, registerServed, revisionFrom, revisionOf, issued}
 use Rattle.attempts.specs.Claims.{Found, nothing, highest}
 use Rattle.attempts.specs.declared.Answer.{Answer}
 use Rattle.attempts.specs.declared.rows.Best.{Best}
@@ -49,13 +51,18 @@ pub record FloorFits (f : Floor) : Type 0 where
 AnswerFits : Answer → Type 0
 AnswerFits x = (x .rank < 2 ^ 32) × (x .value < 2 ^ 32)
 
+answer-fits : {x : Register} {r : ℕ} {d : ReadDone} → Fits32 x → ReadCase x r d → AnswerFits (answerOf d)
+unfolding AnswerFits
+answer-fits g (outranked h) = (omega arith, omega arith)
+answer-fits g (answered h k) = (g .write, g .value)
+
 served-fits : (p : Phase) {w : Row} {x : Register} (b : ℕ) → RowFits w → Fits32 x → RowFits (rowServed p w x b)
-unfolding rmwRead AnswerFits
-served-fits Read {w} b h g = record {
+unfolding AnswerFits
+served-fits Read {w} {x} b h g = record {
   rank = h .rank;
   offer = h .offer;
   written = h .written;
-  answers = set-all answer0 (λ _ (x : Answer). AnswerFits x) (w .answers) b _ (h .answers) (g .write, g .value);
+  answers = set-all answer0 (λ _ (x : Answer). AnswerFits x) (w .answers) b _ (h .answers) (answer-fits g (read-case x (w .rank)));
 }
 served-fits Write b h g = record { rank = h .rank; offer = h .offer; written = h .written; answers = h .answers }
 
@@ -85,7 +92,7 @@ module _ {f : Floor} (h : FloorFits f) {c : Command} (k : Fielded c) (j : ℕ) w
       record { rank = omega (arith, q .0, q .1); offer = q .2; written = omega arith; answers = λ i. rw (getD-same 9 i answer0) (omega arith, omega arith) }
   row-fits (row-served {p} {b} e d) = served-fits p b (h .rows j) (h .boxes b)
   row-fits (row-heard {p} {b} e d) = heard-fits p b (h .rows j)
-  row-fits (row-issues {b} {v} e d r q t) =
+  row-fits (row-issues {b} {v} e d r q u t) =
       let w = heard-fits Read b (h .rows j) in
       record { rank = w .rank; offer = w .offer; written = subst (λ (u : ℕ). u < 2 ^ 32) (sym t) (revision-fits (heardRow f Read j b) (f .n) w); answers = w .answers }
 

@@ -1,4 +1,4 @@
--- Document 01's examples I and J in the words of demand 3, so that the claim is not about nothing.
+-- Document 01's examples I and J, and a read that is outranked, in the words of demand 3, so that the claim is not about nothing.
 use Prim.Native.Nat.{ℕ, zero, suc, _<_}
 use native.Mathlib.Omega.{arith}
 use mathlib.Core.Path.{_≡_, refl, sym, ap, _∙_}
@@ -14,15 +14,15 @@ use Rattle.base.specs.Mask.{bit, setBit, countBelow}
 use Rattle.base.specs.Quorum.{count}
 use Rattle.base.proofs.Cases.{by-cases, up-to}
 use Rattle.base.proofs.Choices.{on-true, on-false, both-true}
-use Rattle.register.specs.Register.{rmwRead, rmwWrite, takes}
-use Rattle.requests.specs.Requests.{standing, waitingBelow, atQuorum, stillYes, allYes}
+use Rattle.register.specs.Register.{outranks, rmwRead, rmwWrite, takes}
+use Rattle.requests.specs.Requests.{standing, waitingBelow, atQuorum, stillYes, allYes, readVerdict, writeVerdict}
 use Rattle.requests.specs.declared.Phase.the-variants.{Read, Write}
 use Rattle.floor.specs.Sound.{stationsBelow, soundOf}
 use Rattle.floor.specs.Floors.{newFloorOf}
 use Rattle.commands.specs.Commands.{allZero, spared, commandOf}
 use Rattle.attempts.specs.Rows.{newRow, better, bestOf, revisionFrom, revisionOf, issued}
 use Rattle.floor.specs.Refusals.{beginRefusal, serveRefusal, deliverRefusal, stopRefusal}
-use Rattle.floor.specs.Effects.{writeEndedOn, deliveredOn}
+use Rattle.floor.specs.Effects.{deliveredOn}
 use Rattle.floor.specs.Step.{playOf, applyOf, stepOf}
 use Rattle.commands.specs.declared.Command.the-variants.{Begin, Serve, Deliver}
 use Rattle.commands.specs.declared.Outcome.{Outcome}
@@ -31,7 +31,7 @@ use Rattle.solo.specs.Solo.{soloOf}
 use Rattle.agreement.specs.Words.{commandAt, Attempt, ServedAt, DecidesAt, AbortsAt, OutrankedAt, shownAt, IdleAt, attemptsBefore}
 use Rattle.floor.specs.Runs.{floorAt, floorLeft, saidAt}
 use Rattle.agreement.specs.Demand.{DrivenAlone}
-use Rattle.agreement.specs.Worked.{exampleI, stops, three, five, heldAt, Worked}
+use Rattle.agreement.specs.Worked.{exampleI, stops, outrankedRead, three, five, heldAt, Worked}
 use Rattle.agreement.proofs.Demand.{demand3}
 use Rattle.agreement.proofs.Consequences.{consequences}
 
@@ -75,6 +75,7 @@ record Computed : Type 0 where
   served : saidAt three exampleI 6 ≡ said.Served 1
   begins : commandAt exampleI 5 ≡ Begin 1 1 9
   begun : saidAt three exampleI 5 ≡ said.Begun 1
+  told : (commandAt outrankedRead 4 ≡ Deliver Read 0 0) × (saidAt three outrankedRead 4 ≡ said.Aborted 0)
   stop0 : saidAt five stops 0 ≡ said.Stopped 0
   stop1 : saidAt five stops 1 ≡ said.Stopped 1
   sizes : (five .n ≡ 5) × (five .m ≡ 1)
@@ -88,7 +89,7 @@ record Computed : Type 0 where
   all : (three .n ≡ 3) × (three .m ≡ 2) × (count (λ b. true) 3 ≡ 3)
 
 computed : Computed
-unfolding floorAt count asExpected expected if_then_else_ sizesRight newFloorOf stepOf applyOf playOf soundOf stationsBelow commandOf allZero spared beginRefusal serveRefusal deliverRefusal stopRefusal standing bit setBit countBelow ones onesIn atQuorum newRow waitingBelow rmwRead rmwWrite takes deliveredOn better bestOf revisionFrom revisionOf issued writeEndedOn stillYes allYes
+unfolding floorAt count asExpected expected if_then_else_ sizesRight newFloorOf stepOf applyOf playOf soundOf stationsBelow commandOf allZero spared beginRefusal serveRefusal deliverRefusal stopRefusal standing bit setBit countBelow ones onesIn atQuorum newRow waitingBelow outranks rmwRead rmwWrite takes deliveredOn better bestOf revisionFrom revisionOf issued stillYes allYes readVerdict writeVerdict
 computed = record {
   decided = refl;
   aborted = refl;
@@ -101,6 +102,7 @@ computed = record {
   served = refl;
   begins = refl;
   begun = refl;
+  told = (refl, refl);
   stop0 = refl;
   stop1 = refl;
   sizes = (refl, refl);
@@ -129,6 +131,9 @@ decides = let d = consequences 3 2 exampleI .station 13 9 (computed .decided) in
 
 outranked : OutrankedAt three exampleI 17
 outranked = demand3 3 2 exampleI .safety .abort 17 0 (computed .aborted)
+
+outranked-read : OutrankedAt three outrankedRead 4
+outranked-read = demand3 3 2 outrankedRead .safety .abort 4 0 (computed .told .1)
 
 -- both steps of `stops` stop a box below 2, and nothing else was said
 only-stops : (k : ℕ) (o : Outcome) → k < 2 → saidAt five stops k ≡ o → (b : ℕ) × (b < 2) × (o ≡ said.Stopped b)
@@ -213,6 +218,7 @@ aborts x e n = record {
     earlier = omega arith;
     last = λ k h u q. elim (begun-at k (x .number) (omega arith) q) [ inl o ↦ omega (arith, o .0) | inr o ↦ omega (arith, o .1) ];
   };
+  phase = Write;
   box = 1;
   asked = computed .abort ∙ ap (λ (a : ℕ). Deliver Write a 1) (sym n);
   accepted = computed .aborted ∙ ap said.Aborted (sym n);
@@ -247,6 +253,8 @@ worked = record {
   decides = decides;
   served = rank-17;
   outranked = outranked;
+  told = computed .told;
+  outranked-read = outranked-read;
   alone = alone;
   thirteen = thirteen;
   idle-behind = idle-behind;

@@ -32,10 +32,10 @@ module _ (f : Floor) (l : List (List ℕ)) where
   abbrev pub answerAt : (a b i : ℕ) → Answer
   answerAt a b i = getD (rowAt (floorAt f l i) a .answers) b answer0
 
-  -- A read with the rank r, of any reply of 8 bytes: the call returns 0, leaves the box's next record, and fills the reply with the
-  -- answer that is then on the way.
+  -- A read with the rank r, of any reply of 8 bytes: the call leaves the box's next record, fills the reply with the numbers of the answer
+  -- that is then on the way, and returns 0, or 100 where that answer is "outranked".
   pub record ReadInC (r a b i : ℕ) (reply : List ℕ) : Type 0 where
-    pub returns : readAnswer (bytesAt b i) r reply ≡ 0
+    pub returns : readAnswer (bytesAt b i) r reply ≡ (if slotAt (rowAt (floorAt f l (suc i)) a .read) b .ok then 0 else 100)
     pub changes : recordAfterRead (bytesAt b i) r reply ≡ bytesAt b (suc i)
     pub answers : replyAfterRead (bytesAt b i) r reply ≡ replyOf (answerAt a b (suc i) .rank) (answerAt a b (suc i) .value)
 

@@ -74,11 +74,12 @@ module _ (f : Floor) (l : List (List ℕ)) where
     pub asked : commandAt l i ≡ Deliver Write (attempt .number) box
     pub accepted : saidAt f l i ≡ said.Decided v
 
-  -- the attempt x aborts
+  -- the attempt x aborts, at the delivery of a write answer or, wish 2, of a read answer
   pub record AbortsAt (x : Attempt) (i : ℕ) : Type 0 where
     pub named : Named x i
+    pub phase : Phase
     pub box : ℕ
-    pub asked : commandAt l i ≡ Deliver Write (x .number) box
+    pub asked : commandAt l i ≡ Deliver phase (x .number) box
     pub accepted : saidAt f l i ≡ said.Aborted (x .number)
 
   -- "before each abort a rank higher than the aborted one was served at a box": the abort at i

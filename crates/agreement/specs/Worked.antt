@@ -1,4 +1,5 @@
--- Document 01's examples I and J in the words of demand 3, so that the claim is not about nothing. The proof is `worked` in proofs/Worked.
+-- Document 01's examples I and J, and a read that is outranked, in the words of demand 3, so that the claim is not about nothing. The proof
+-- is `worked` in proofs/Worked.
 use Prim.Native.Nat.{ℕ, _<_}
 use mathlib.Core.Path.{_≡_}
 use mathlib.Core.List.{List, [], _∷_}
@@ -6,11 +7,12 @@ use lib.ListN.{length}
 use Rattle.requests.specs.declared.Phase.the-variants.{Read, Write}
 use Rattle.commands.specs.Commands.{encodeOf}
 use Rattle.commands.specs.declared.Command.the-variants.{Begin, Serve, Deliver, Stop}
+use Rattle.commands.specs.declared.Outcome.the-variants as said
 use Rattle.floor.specs.Floors.{boxAt}
-use Rattle.floor.specs.Runs.{floorLeft}
+use Rattle.floor.specs.Runs.{floorLeft, saidAt}
 use Rattle.floor.specs.declared.Floor.{Floor}
 use Rattle.solo.specs.Solo.{soloOf}
-use Rattle.agreement.specs.Words.{ServedAt, DecidesAt, OutrankedAt, IdleAt}
+use Rattle.agreement.specs.Words.{commandAt, ServedAt, DecidesAt, OutrankedAt, IdleAt}
 use Rattle.agreement.specs.Demand.{firstFloor, DrivenAlone}
 
 -- "I: n = 3. Attempt 0 (rank 16, 7) has read at boxes 0 and 1. Attempt 1 (rank 17, 9) reads and writes at 1 and 2 and decides 9.
@@ -28,6 +30,11 @@ exampleI =
 abbrev pub stops : List (List ℕ)
 stops = encodeOf (Stop 0) ∷ encodeOf (Stop 1) ∷ []
 
+-- Wish 2 of document 02: attempt 1 (rank 17, 9) has read at box 0, and attempt 0 (rank 16, 7) reads there after it.
+abbrev pub outrankedRead : List (List ℕ)
+outrankedRead =
+    encodeOf (Begin 0 1 7) ∷ encodeOf (Begin 1 1 9) ∷ encodeOf (Serve Read 1 0) ∷ encodeOf (Serve Read 0 0) ∷ encodeOf (Deliver Read 0 0) ∷ []
+
 abbrev pub three : Floor
 three = firstFloor 3 2
 
@@ -43,6 +50,9 @@ pub record Worked : Type 0 where
   pub decides : (s : ℕ) × DecidesAt three exampleI s 9 13
   pub served : ServedAt three exampleI 17 1 6
   pub outranked : OutrankedAt three exampleI 17
+  -- wish 2: attempt 0 aborts at its first read answer, and before that a rank above its own was served
+  pub told : (commandAt outrankedRead 4 ≡ Deliver Read 0 0) × (saidAt three outrankedRead 4 ≡ said.Aborted 0)
+  pub outranked-read : OutrankedAt three outrankedRead 4
   -- J: with 2 of 5 boxes stopped, whatever revision station 0 offers
   pub alone : (v : ℕ) → 0 < v → v < 4294967296 → DrivenAlone five stops 0 v (soloOf (floorLeft five stops) 0 v)
   pub thirteen : (v : ℕ) → 0 < v → v < 4294967296 → soloOf (floorLeft five stops) 0 v .steps ≡ 13

@@ -44,3 +44,8 @@ is-idle Gone g e = clash refl g
 pub is-in : (f : Phase) (p : State) (a : ℕ) → isIn f p a ≡ true → p ≡ ofPhase f (Reading a) (Writing a)
 is-in Read p a e = is-reading p a e
 is-in Write p a e = is-writing p a e
+
+-- and it is not gone
+pub here-in : (f : Phase) (p : State) (a : ℕ) → isIn f p a ≡ true → isGone p ≡ false
+here-in Read p a e = ap isGone (is-reading p a e)
+here-in Write p a e = ap isGone (is-writing p a e)

@@ -6,7 +6,7 @@ use lib.ListN.{getD, set, replicate}
 use lib.Dec.{ltb}
 use Rattle.base.specs.Choice.{if_then_else_}
 use Rattle.base.specs.Numbers.{rankOf}
-use Rattle.register.specs.Register.{holdsNothing, rmwRead, rmwWrite}
+use Rattle.register.specs.Register.{isHeld, rankIn, valueIn, holdsNothing, rmwRead, rmwWrite}
 use Rattle.register.specs.declared.Register.{Register}
 use Rattle.register.specs.declared.ReadDone.{ReadDone}
 use Rattle.requests.specs.Requests.{ofPhase, requests0, noneIssued, heardFrom, issuedTo, servedAt, receivedFrom}
@@ -57,12 +57,12 @@ newRow n station round revision =
       write = noneIssued;
     }
 
--- what a read was answered
+-- what a read was answered, in numbers: 0 and 0 where it is outranked
 abbrev pub answerOf : (done : ReadDone) → Answer
-answerOf done = record { rank = done .rank; value = done .value }
+answerOf done = record { rank = rankIn (done .answer); value = valueIn (done .answer) }
 
 -- "the routine runs and its answer is on the way": the row w once the box with this register has served its read or its write. What a
--- read was answered is kept with the row.
+-- read was answered is kept with the row, and that it is outranked as a no.
 abbrev pub rowServed : (phase : Phase) (w : Row) (register : Register) (box : ℕ) → Row
 rowServed phase w register box =
     record {
@@ -70,7 +70,7 @@ rowServed phase w register box =
       rank = w .rank;
       offer = w .offer;
       written = w .written;
-      read = ofPhase phase (servedAt (w .read) box true) (w .read);
+      read = ofPhase phase (servedAt (w .read) box (isHeld (rmwRead register (w .rank) .answer))) (w .read);
       answers = ofPhase phase (set (w .answers) box (answerOf (rmwRead register (w .rank)))) (w .answers);
       write = ofPhase phase (w .write) (servedAt (w .write) box (rmwWrite register (w .rank) (w .written) .taken));
     }

@@ -35,7 +35,7 @@ pub struct Station {
     pub decided: u32,
 }
 
-// What a box answered to a read: its write rank and value.
+// What a box answered to a read: its write rank and value, 0 and 0 where the read was outranked.
 pub struct Answer {
     pub rank: u32,
     pub value: u32,

@@ -72,15 +72,15 @@ fn serve_read(w: Row, held: Register, b: u8) -> Served
 {
     let done = register::rmw_read(held, w.rank);
     let register = done.register;
+    let answer = done.answer;
     let old = w.read;
-    let read = requests::served(old, b, true);
+    let read = requests::served(old, b, register::held(answer));
     let mut row = w;
     row.read = read;
+    let rank = register::rank_in(answer);
+    let value = register::value_in(answer);
     if b < 9 {
-        row.answers[b as usize] = Answer {
-            rank: done.rank,
-            value: done.value,
-        };
+        row.answers[b as usize] = Answer { rank, value };
     }
     Served { row, register }
 }

@@ -6,14 +6,14 @@ use Rattle.base.specs.Choice.{if_then_else_}
 use Rattle.base.specs.Numbers.{sizesRight}
 use Rattle.base.specs.Records.{recordAt, recordsFrom}
 use Rattle.base.specs.Mask.{bit, setBit, countBelow}
-use Rattle.register.specs.Register.{rmwRead, rmwWrite, takes}
-use Rattle.requests.specs.Requests.{standing, waitingBelow, atQuorum, stillYes, allYes}
+use Rattle.register.specs.Register.{outranks, rmwRead, rmwWrite, takes}
+use Rattle.requests.specs.Requests.{standing, waitingBelow, atQuorum, stillYes, allYes, readVerdict, writeVerdict}
 use Rattle.floor.specs.Sound.{stationsBelow, soundOf}
 use Rattle.floor.specs.Floors.{newFloorOf}
 use Rattle.commands.specs.Commands.{allZero, spared, commandOf}
 use Rattle.attempts.specs.Rows.{newRow, better, bestOf, revisionFrom, revisionOf, issued}
 use Rattle.floor.specs.Refusals.{beginRefusal, serveRefusal, deliverRefusal, stopRefusal, leaveRefusal}
-use Rattle.floor.specs.Effects.{writeEndedOn, deliveredOn}
+use Rattle.floor.specs.Effects.{deliveredOn}
 use Rattle.floor.specs.Step.{playOf, applyOf, stepOf}
 use Rattle.floor.specs.Runs.{floorAt, stopsAt, runFrom, playedOn}
 use Rattle.solo.specs.Plan.{highestRank, roundAbove, answeringFrom, lowest, exchange, exchanges, exchangesOf}
@@ -24,5 +24,5 @@ use Rattle.examples.specs.WorkedRuns.{saidFrom, answersFrom, linesFrom}
 use Rattle.examples.specs.Table.{Claim}
 
 pub examples-hold : Claim
-unfolding if_then_else_ sizesRight recordAt recordsFrom bit setBit countBelow ones onesIn rmwRead rmwWrite takes standing waitingBelow atQuorum stillYes allYes stationsBelow soundOf newFloorOf allZero spared commandOf newRow better bestOf revisionFrom revisionOf issued beginRefusal serveRefusal deliverRefusal stopRefusal leaveRefusal writeEndedOn deliveredOn playOf applyOf stepOf floorAt stopsAt runFrom playedOn wrongSize wrongVersion wrongFloor wrongByte wrongBytes wrongLength wrongLabel wrongRun wrongRecords fileRefusal labelOf playedOf lastRank highestRank roundAbove answeringFrom lowest exchange exchanges exchangesOf frontRefusal soloRefusal soloOf saidFrom answersFrom linesFrom
+unfolding if_then_else_ sizesRight recordAt recordsFrom bit setBit countBelow ones onesIn outranks rmwRead rmwWrite takes standing waitingBelow atQuorum stillYes allYes readVerdict writeVerdict stationsBelow soundOf newFloorOf allZero spared commandOf newRow better bestOf revisionFrom revisionOf issued beginRefusal serveRefusal deliverRefusal stopRefusal leaveRefusal deliveredOn playOf applyOf stepOf floorAt stopsAt runFrom playedOn wrongSize wrongVersion wrongFloor wrongByte wrongBytes wrongLength wrongLabel wrongRun wrongRecords fileRefusal labelOf playedOf lastRank highestRank roundAbove answeringFrom lowest exchange exchanges exchangesOf frontRefusal soloRefusal soloOf saidFrom answersFrom linesFrom
 examples-hold = (refl, (refl, (refl, (refl, (refl, (refl, (refl, (refl, (refl, (refl, (refl, (refl, (refl, (refl, (refl, (refl, (refl, (refl, (refl, tt)))))))))))))))))))

@@ -1,10 +1,11 @@
--- Document 01, "Floors worked through": the lettered examples, one row or more for each.
+-- Document 01, "Floors worked through": the lettered examples, one row or more for each; F as wish 2 of document 02 has it.
 use Prim.Native.Nat.{ℕ}
 use mathlib.Core.Bool.{true, false}
 use mathlib.Core.List.{List, [], _∷_}
 use Rattle.base.specs.Numbers.{quorum, rankOf}
 use Rattle.register.specs.Register.{rmwRead, rmwWrite}
 use Rattle.register.specs.declared.Register.{Register}
+use Rattle.register.specs.declared.ReadAnswer.the-variants.{Outranked}
 use Rattle.requests.specs.declared.Phase.the-variants.{Read}
 use Rattle.attempts.specs.declared.State.the-variants as state
 use Rattle.commands.specs.declared.Outcome.{Outcome}
@@ -55,8 +56,8 @@ table =
     ∷ row D (wrote (rmwWrite (box 17 0 0) 16 7)) (wrote (record { register = box 17 0 0; taken = false }))
     -- "E: box (16, 16, 7), write 16 of 9: not taken."
     ∷ row E (wrote (rmwWrite (box 16 16 7) 16 9)) (wrote (record { register = box 16 16 7; taken = false }))
-    -- "F: box (33, 16, 7), read 18: answer (16, 7), unchanged."
-    ∷ row F (read (rmwRead (box 33 16 7) 18)) (read (record { register = box 33 16 7; rank = 16; value = 7 }))
+    -- "F: box (33, 16, 7), read 18: .. unchanged"; wish 2 of document 02: "example F now answers outranked"
+    ∷ row F (read (rmwRead (box 33 16 7) 18)) (read (record { register = box 33 16 7; answer = Outranked }))
     -- "G: n = 3, answers (0, 0) and (16, 7) to rank 33: it writes 7."
     ∷ row G (gatheredBy 3 runG (Deliver Read 1 1) 1) (gathered 33 ((0, 0) ∷ (16, 7) ∷ []) (WriteIssued 7))
     -- "H: n = 3, two answers (0, 0) from two boxes: a majority."

@@ -7,13 +7,15 @@ use mathlib.Core.List.{List}
 use Prim.Native.Nat.{ℕ, _<_, _^_}
 use native.Mathlib.Omega.{arith}
 use lib.Dec.{eqb}
-use lib.ListN.{length}
+use lib.ListN.{length, replicate}
 use borrow.Author.Tests.{eq-eqb, ne-eqb}
 use Rattle.base.specs.Bytes.{Bytes}
 use Rattle.base.proofs.Choices.{on-true, on-false, by-test}
-use Rattle.register.specs.Register.{rmwRead, takes, rmwWrite}
-use Rattle.register.proofs.RegisterLaws.{write-refused, write-answers}
+use Rattle.register.specs.Register.{isHeld, numberIn, rankIn, valueIn, rmwRead, takes, rmwWrite}
+use Rattle.register.proofs.RegisterLaws.{ReadCase, outranked, answered, read-case, write-refused, write-answers}
 use Rattle.register.specs.declared.Register.{Register}
+use Rattle.register.specs.declared.ReadAnswer.{ReadAnswer}
+use Rattle.register.specs.declared.ReadAnswer.the-variants.{Held, Outranked}
 use Rattle.register.specs.declared.ReadDone.{ReadDone}
 use Rattle.register.specs.declared.WriteDone.{WriteDone}
 use Rattle.firmware.specs.Firmware.{encode, decode, replyOf, readAnswer, recordAfterRead, replyAfterRead, writeAnswer, recordAfterWrite}
@@ -37,14 +39,26 @@ neither t u e f = rw (e, f)
 
 -- the routine keeps a register's fields within 32 bits
 module _ (x : Register) (r : ℕ) (f : Fits32 x) (g : r < 2 ^ 32) where
+  fits-after : {d : ReadDone} → ReadCase x r d → Fits32 (d .register)
+  fits-after (outranked h) = f
+  fits-after (answered h k) = record { read = g; write = f .write; value = f .value }
+
   pub read-fits : Fits32 (rmwRead x r .register)
-  unfolding rmwRead
-  read-fits = record { read = omega arith; write = f .write; value = f .value }
+  read-fits = fits-after (read-case x r)
 
   pub write-fits : (v : ℕ) → v < 2 ^ 32 → Fits32 (rmwWrite x r v .register)
   unfolding rmwWrite
   write-fits v k =
       by-test (λ (d : WriteDone). Fits32 (d .register)) (takes x r) _ _ (λ _. record { read = f .read; write = g; value = k }) (λ _. f)
+
+-- the numbers of a read's answer
+held-number : (a : ReadAnswer) → isHeld a ≡ true → 0 ≡ numberIn a
+held-number (Held w v) t = refl
+held-number Outranked t = absurd (false≢true t)
+
+outranked-number : (a : ReadAnswer) → isHeld a ≡ false → 100 ≡ numberIn a
+outranked-number (Held w v) t = absurd (false≢true (sym t))
+outranked-number Outranked t = refl
 
 -- ---- a read of record s with rank r and reply p
 module _ (s : List ℕ) (r : ℕ) (p : List ℕ) where
@@ -60,40 +74,91 @@ module _ (s : List ℕ) (r : ℕ) (p : List ℕ) where
     unfolding readAnswer
     read-17 e = on-false _ lengths (on-true _ (eq-eqb r 0 e) refl)
 
-    pub read-0 : (r ≡ 0 → ⊥) → 0 ≡ readAnswer s r p
-    unfolding readAnswer
-    read-0 n = on-false _ lengths (on-false _ (ne-eqb r 0 n) refl)
+    module _ (n : r ≡ 0 → ⊥) where
+      pub read-0 : isHeld (rmwRead (decode s) r .answer) ≡ true → 0 ≡ readAnswer s r p
+      unfolding readAnswer
+      read-0 t = on-false _ lengths (on-false _ (ne-eqb r 0 n) (held-number (rmwRead (decode s) r .answer) t))
 
-  -- "record and reply stay unchanged" after any other answer than 0
-  pub read-refused : (a : ℕ) → eqb a 0 ≡ false → a ≡ readAnswer s r p → (s ≡ recordAfterRead s r p) × (p ≡ replyAfterRead s r p)
-  unfolding recordAfterRead replyAfterRead
-  read-refused a n e = let t = ap (λ (x : ℕ). eqb x 0) (sym e) ∙ n in (on-false _ t refl, on-false _ t refl)
+      pub read-100 : isHeld (rmwRead (decode s) r .answer) ≡ false → 100 ≡ readAnswer s r p
+      unfolding readAnswer
+      read-100 t = on-false _ lengths (on-false _ (ne-eqb r 0 n) (outranked-number (rmwRead (decode s) r .answer) t))
 
+  -- the record stays as it is after any other answer than 0: refused or outranked
+  pub read-kept : (a : ℕ) → eqb a 0 ≡ false → a ≡ readAnswer s r p → s ≡ recordAfterRead s r p
+  unfolding recordAfterRead
+  read-kept a n e = on-false _ (ap (λ (x : ℕ). eqb x 0) (sym e) ∙ n) refl
+
+  -- "record and reply stay unchanged" after any other answer than 0 and 100
+  pub read-refused : (a : ℕ) → eqb a 0 ≡ false → eqb a 100 ≡ false → a ≡ readAnswer s r p → (s ≡ recordAfterRead s r p) × (p ≡ replyAfterRead s r p)
+  unfolding replyAfterRead
+  read-refused a n m e =
+      (read-kept a n e, on-false _ (ap (λ (x : ℕ). eqb x 0) (sym e) ∙ n) (on-false _ (ap (λ (x : ℕ). eqb x 100) (sym e) ∙ m) refl))
+
+  -- after answer 100 the reply is zeroed
+  pub read-zeroed : 100 ≡ readAnswer s r p → replicate 8 0 ≡ replyAfterRead s r p
+  unfolding replyAfterRead
+  read-zeroed e = on-false _ (ap (λ (x : ℕ). eqb x 0) (sym e)) (on-true _ (ap (λ (x : ℕ). eqb x 100) (sym e)) refl)
+
+  -- after answer 0 the record is that of the register after the read, and the reply that of its answer
   module _ (e : 0 ≡ readAnswer s r p) where
     zero-read : eqb (readAnswer s r p) 0 ≡ true
     zero-read = ap (λ (x : ℕ). eqb x 0) (sym e)
 
-    -- after answer 0 the record is that of the register after the read, and the reply that of its answer
     pub read-record : encode (rmwRead (decode s) r .register) ≡ recordAfterRead s r p
     unfolding recordAfterRead
     read-record = on-true _ zero-read refl
 
-    pub read-reply : replyOf (rmwRead (decode s) r .rank) (rmwRead (decode s) r .value) ≡ replyAfterRead s r p
+    read-filled : replyOf (rankIn (rmwRead (decode s) r .answer)) (valueIn (rmwRead (decode s) r .answer)) ≡ replyAfterRead s r p
     unfolding replyAfterRead
-    read-reply = on-true _ zero-read refl
+    read-filled = on-true _ zero-read refl
+
+  module _ (hs : length s ≡ 12) (hp : length p ≡ 8) (n : r ≡ 0 → ⊥) where
+    abbrev done : ReadDone
+    done = rmwRead (decode s) r
 
     -- as the code comes to it, from what was loaded and what the routine made of it
-    pub read-ends-0 : (x : Register) (d : ReadDone) (s′ p′ : List ℕ) → x ≡ decode s → d ≡ rmwRead x r → s′ ≡ encode (d .register)
-        → p′ ≡ replyOf (d .rank) (d .value) → (0 ≡ readAnswer s r p) × ((s′ ≡ recordAfterRead s r p) × (p′ ≡ replyAfterRead s r p))
-    read-ends-0 x d s′ p′ ex ed es ep =
-        let g : d ≡ rmwRead (decode s) r = ed ∙ ap (λ (y : Register). rmwRead y r) ex in
-        let es′ : s′ ≡ recordAfterRead s r p = es ∙ ap (λ (y : ReadDone). encode (y .register)) g ∙ read-record in
-        let ep′ : p′ ≡ replyAfterRead s r p = ep ∙ ap (λ (y : ReadDone). replyOf (y .rank) (y .value)) g ∙ read-reply in
-        (e, (es′, ep′))
+    module _ (x : Register) (d : ReadDone) (ex : x ≡ decode s) (ed : d ≡ rmwRead x r) where
+      made-read : d ≡ done
+      made-read = ed ∙ ap (λ (y : Register). rmwRead y r) ex
 
-    -- the record decodes to the register that the routine by value gives
-    pub read-routine : decode (recordAfterRead s r p) ≡ rmwRead (decode s) r .register
-    read-routine = ap decode (sym read-record) ∙ decode-encode _
+      answer-is : (a : ReadAnswer) → d .answer ≡ a → done .answer ≡ a
+      answer-is a q = ap (λ (y : ReadDone). y .answer) (sym made-read) ∙ q
+
+      pub read-ends-100 : d .answer ≡ Outranked → (p′ : List ℕ) → p′ ≡ replyOf 0 0 → (100 ≡ readAnswer s r p) × ((s ≡ recordAfterRead s r p) × (p′ ≡ replyAfterRead s r p))
+      unfolding replyOf
+      read-ends-100 q p′ ep =
+          let e = read-100 hs hp n (ap isHeld (answer-is Outranked q)) in
+          (e, (read-kept 100 refl e, ep ∙ read-zeroed e))
+
+      pub read-ends-0 : (w v : ℕ) → d .answer ≡ Held w v → (s′ p′ : List ℕ) → s′ ≡ encode (d .register) → p′ ≡ replyOf w v
+          → (0 ≡ readAnswer s r p) × ((s′ ≡ recordAfterRead s r p) × (p′ ≡ replyAfterRead s r p))
+      read-ends-0 w v q s′ p′ es ep =
+          let a = answer-is (Held w v) q in
+          let e = read-0 hs hp n (ap isHeld a) in
+          (e, (es ∙ ap (λ (y : ReadDone). encode (y .register)) made-read ∙ read-record e, ep ∙ ap (λ (y : ReadAnswer). replyOf (rankIn y) (valueIn y)) (sym a) ∙ read-filled e))
+
+    -- the record then holds the register that the routine by value gives, outranked or not, and the reply the answer's rank and value
+    record Called (d : ReadDone) : Type 0 where
+      routine : decode (recordAfterRead s r p) ≡ d .register
+      reply : replyOf (rankIn (d .answer)) (valueIn (d .answer)) ≡ replyAfterRead s r p
+
+    called : {d : ReadDone} → done ≡ d → ReadCase (decode s) r d → Called d
+    unfolding replyOf
+    called q (outranked h) =
+        let e = read-100 hs hp n (ap (λ (y : ReadDone). isHeld (y .answer)) q) in
+        record { routine = ap decode (sym (read-kept 100 refl e)); reply = read-zeroed e }
+    called q (answered h k) =
+        let e = read-0 hs hp n (ap (λ (y : ReadDone). isHeld (y .answer)) q) in
+        record {
+          routine = ap decode (sym (read-record e)) ∙ decode-encode _ ∙ ap (λ (y : ReadDone). y .register) q;
+          reply = ap (λ (y : ReadDone). replyOf (rankIn (y .answer)) (valueIn (y .answer))) (sym q) ∙ read-filled e;
+        }
+
+    pub read-routine : decode (recordAfterRead s r p) ≡ done .register
+    read-routine = called refl (read-case (decode s) r) .routine
+
+    pub read-reply : replyOf (rankIn (done .answer)) (valueIn (done .answer)) ≡ replyAfterRead s r p
+    read-reply = called refl (read-case (decode s) r) .reply
 
   -- record and reply stay lists of bytes
   module _ (b : Bytes s) where
@@ -101,9 +166,14 @@ module _ (s : List ℕ) (r : ℕ) (p : List ℕ) where
     unfolding recordAfterRead
     read-bytes g = by-test Bytes _ _ _ (λ _. encode-bytes _ (read-fits (decode s) r (decode-fits s b) g)) (λ _. b)
 
+    answer-bytes : {d : ReadDone} → ReadCase (decode s) r d → Bytes (replyOf (rankIn (d .answer)) (valueIn (d .answer)))
+    unfolding replyOf
+    answer-bytes (outranked h) = omega arith
+    answer-bytes (answered h k) = let f = decode-fits s b in omega arith
+
     pub reply-bytes : Bytes p → Bytes (replyAfterRead s r p)
-    unfolding replyAfterRead replyOf rmwRead
-    reply-bytes c = let f = decode-fits s b in by-test Bytes _ _ _ (λ _. omega arith) (λ _. c)
+    unfolding replyAfterRead
+    reply-bytes c = by-test Bytes _ _ _ (λ _. answer-bytes (read-case (decode s) r)) (λ _. by-test Bytes _ _ _ (λ _. omega arith) (λ _. c))
 
 -- ---- a write of revision v to record s with rank r
 module _ (s : List ℕ) (r v : ℕ) where

@@ -4,9 +4,9 @@ use mathlib.Core.Path.{_≡_}
 use mathlib.Core.Logic.{_⊎_}
 use mathlib.Core.Bool.{true, false}
 use mathlib.Core.List.{List}
-use lib.ListN.{length}
+use lib.ListN.{length, replicate}
 use Rattle.base.specs.Bytes.{Bytes, wordAt}
-use Rattle.register.specs.Register.{rmwRead, rmwWrite}
+use Rattle.register.specs.Register.{isHeld, rankIn, valueIn, rmwRead, rmwWrite}
 use Rattle.register.specs.declared.Register.{Register}
 use Rattle.firmware.specs.Firmware.{decode, encode, replyOf, readAnswer, recordAfterRead, replyAfterRead, writeAnswer, recordAfterWrite}
 
@@ -26,11 +26,14 @@ pub record FirmwareClaims : Type 0 where
   -- the answers of a read of record s with rank r and reply p
   pub read-16 : (s : List ℕ) (r : ℕ) (p : List ℕ) → (length s ≡ 12 → ⊥) ⊎ (length p ≡ 8 → ⊥) → 16 ≡ readAnswer s r p
   pub read-17 : (s : List ℕ) (r : ℕ) (p : List ℕ) → length s ≡ 12 → length p ≡ 8 → r ≡ 0 → 17 ≡ readAnswer s r p
-  pub read-0 : (s : List ℕ) (r : ℕ) (p : List ℕ) → length s ≡ 12 → length p ≡ 8 → (r ≡ 0 → ⊥) → 0 ≡ readAnswer s r p
-  -- it does to the record what the routine by value does to the register
-  pub read-routine : (s : List ℕ) (r : ℕ) (p : List ℕ) → 0 ≡ readAnswer s r p → decode (recordAfterRead s r p) ≡ rmwRead (decode s) r .register
-  pub read-reply : (s : List ℕ) (r : ℕ) (p : List ℕ) → 0 ≡ readAnswer s r p
-      → replyOf (rmwRead (decode s) r .rank) (rmwRead (decode s) r .value) ≡ replyAfterRead s r p
+  pub read-0 : (s : List ℕ) (r : ℕ) (p : List ℕ) → length s ≡ 12 → length p ≡ 8 → (r ≡ 0 → ⊥) → isHeld (rmwRead (decode s) r .answer) ≡ true → 0 ≡ readAnswer s r p
+  pub read-100 : (s : List ℕ) (r : ℕ) (p : List ℕ) → length s ≡ 12 → length p ≡ 8 → (r ≡ 0 → ⊥) → isHeld (rmwRead (decode s) r .answer) ≡ false → 100 ≡ readAnswer s r p
+  -- it does to the record what the routine by value does to the register, outranked or not
+  pub read-routine : (s : List ℕ) (r : ℕ) (p : List ℕ) → length s ≡ 12 → length p ≡ 8 → (r ≡ 0 → ⊥) → decode (recordAfterRead s r p) ≡ rmwRead (decode s) r .register
+  -- and the reply has the answer's rank and value; outranked all 8 bytes are 0
+  pub read-reply : (s : List ℕ) (r : ℕ) (p : List ℕ) → length s ≡ 12 → length p ≡ 8 → (r ≡ 0 → ⊥)
+      → replyOf (rankIn (rmwRead (decode s) r .answer)) (valueIn (rmwRead (decode s) r .answer)) ≡ replyAfterRead s r p
+  pub read-zeroed : (s : List ℕ) (r : ℕ) (p : List ℕ) → 100 ≡ readAnswer s r p → replicate 8 0 ≡ replyAfterRead s r p
   -- the same of a write of revision v
   pub write-16 : (s : List ℕ) (r v : ℕ) → (length s ≡ 12 → ⊥) → 16 ≡ writeAnswer s r v
   pub write-17 : (s : List ℕ) (r v : ℕ) → length s ≡ 12 → (r ≡ 0) ⊎ (v ≡ 0) → 17 ≡ writeAnswer s r v

@@ -1,5 +1,6 @@
-// The box routine as box firmware in C calls it: document 01's section "The box routine", on a record of 12 bytes. The routine itself
-// is crate `register`'s, which the floor runs too; here are the bytes, the answers and the refusals.
+// The box routine as box firmware in C calls it: document 01's section "The box routine" and wish 2 of document 02, on a record of 12
+// bytes. The routine itself is crate `register`'s, which the floor runs too; here are the bytes, the answers and the refusals.
+use register::ReadAnswer;
 use register::Register;
 use register::rmw_read;
 use register::rmw_write;
@@ -38,7 +39,8 @@ fn store_reply(s: &mut [u8], rank: u32, value: u32)
 
 // ---- The two calls, `bytes` being the record. A refusal, 16 or 17, is decided before the first store.
 
-// A read: the record's read rank becomes the larger of itself and the rank; the reply is filled with write rank and value.
+// A read: the record's read rank becomes the rank, and the reply is filled with write rank and value. 100 where its read rank or its
+// write rank is above the rank: then the record stays as it is, and the reply is zeroed.
 #[no_mangle]
 pub extern "C" fn box_read(bytes: &mut [u8], rank: u32, reply: &mut [u8]) -> u32
     ensures answer { λ y. ⌜ y ≡ readAnswer (now (bytes .entry)) rank (now (reply .entry)) ⌝ }
@@ -53,9 +55,18 @@ pub extern "C" fn box_read(bytes: &mut [u8], rank: u32, reply: &mut [u8]) -> u32
     }
     let done = rmw_read(load(bytes), rank);
     let after = done.register;
-    store(bytes, after);
-    store_reply(reply, done.rank, done.value);
-    0
+    let answer = done.answer;
+    match answer {
+        ReadAnswer::Held(write, value) => {
+            store(bytes, after);
+            store_reply(reply, write, value);
+            0
+        }
+        ReadAnswer::Outranked => {
+            store_reply(reply, 0, 0);
+            100
+        }
+    }
 }
 
 // A write: 0 where it is taken, and 100 where it is not; then the record stays as it is.

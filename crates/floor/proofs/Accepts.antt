@@ -1,18 +1,21 @@
 -- A step that passes its tests on a sound floor is accepted: the floor it leads to and what it says. The view's converse.
 use Prim.Native.Nat.{ℕ}
-use mathlib.Core.Path.{_≡_, refl, sym, _∙_}
+use mathlib.Core.Path.{_≡_, refl, sym, ap, _∙_}
 use mathlib.Core.Logic.{_⊎_, inl, inr}
 use mathlib.Core.Bool.{true, false}
-use Rattle.base.proofs.Choices.{on-true, on-false, by-test}
-use Rattle.requests.specs.Requests.{ofPhase, atQuorum, allYes}
+use Rattle.base.proofs.Choices.{on-true, by-test}
+use Rattle.requests.specs.Requests.{atQuorum, allYes}
 use Rattle.requests.specs.declared.Phase.{Phase}
 use Rattle.requests.specs.declared.Phase.the-variants.{Read, Write}
+use Rattle.requests.specs.declared.Verdict.{Verdict}
+use Rattle.requests.specs.declared.Verdict.the-variants.{Open, Yes, No}
+use Rattle.requests.proofs.RequestLaws.{verdict-yes}
 use Rattle.base.proofs.Cases.{clash}
 use Rattle.floor.specs.Floors.{rowAt, ownerAt}
 use Rattle.attempts.specs.Stations.{isReading, isWriting, isIn}
 use Rattle.floor.specs.Claims.{Sound, CanBegin, CanServe, CanDeliver}
-use Rattle.attempts.specs.Rows.{revisionOf, requestsHeard}
-use Rattle.floor.specs.Effects.{heardRow, stepped, afterBegin, afterServe, afterIssue, afterDecision, afterAbort, receivedOn, readEndedOn, writeEndedOn, deliveredOn}
+use Rattle.attempts.specs.Rows.{revisionOf}
+use Rattle.floor.specs.Effects.{heardRow, stepped, afterBegin, afterServe, afterIssue, afterDecision, afterAbort, receivedOn, verdictOn, heardOn, deliveredOn}
 use Rattle.floor.specs.Step.{applyOf}
 use Rattle.floor.specs.declared.Floor.{Floor}
 use Rattle.floor.specs.declared.Stepped.{Stepped}
@@ -33,34 +36,32 @@ module _ (f : Floor) (z : Sound f) where
       deliver-accepted : applyOf f (Deliver p a b) ≡ deliveredOn f p a b
       deliver-accepted = apply-accepted f (Deliver p a b) z (deliver-holds f p a b d)
 
-      -- an answer that is not the q-th, or that reaches a station which is not in that phase of its attempt
-      pub received : (isIn p (ownerAt f a .state) a ≡ false) ⊎ (atQuorum (requestsHeard p (rowAt f a) b) (f .n) ≡ false)
+      -- an answer to a station that is in that phase of its attempt, by what the answers received come to
+      heard : (v : Verdict) → isIn p (ownerAt f a .state) a ≡ true → verdictOn f p a b ≡ v
+          → applyOf f (Deliver p a b) ≡ heardOn f p a b v
+      unfolding deliveredOn
+      heard v r e = deliver-accepted ∙ sym (on-true _ r refl) ∙ ap (heardOn f p a b) e
+
+      -- one that ends nothing, or that reaches a station which is not in that phase of its attempt
+      pub received : (isIn p (ownerAt f a .state) a ≡ false) ⊎ (verdictOn f p a b ≡ Open)
           → applyOf f (Deliver p a b) ≡ receivedOn f p a b
       unfolding deliveredOn
       received h =
           deliver-accepted
-          ∙ by-test P _ _ _ (λ r. by-test P _ _ _ (λ q. elim h [ inl e ↦ clash r e | inr e ↦ clash q e ]) (λ _. refl)) (λ _. refl)
-        where
-          P : Stepped → Type 0
-          P y = y ≡ receivedOn f p a b
+          ∙ by-test (λ (y : Stepped). y ≡ receivedOn f p a b) _ _ _ (λ r. elim h [ inl e ↦ clash r e | inr e ↦ ap (heardOn f p a b) e ]) (λ _. refl)
 
-      -- the q-th, for a station that is in it
-      module _ (r : isIn p (ownerAt f a .state) a ≡ true) (q : atQuorum (requestsHeard p (rowAt f a) b) (f .n) ≡ true) where
-        ended : applyOf f (Deliver p a b) ≡ ofPhase p (readEndedOn f a (heardRow f p a b)) (writeEndedOn f a (heardRow f p a b))
-        unfolding deliveredOn
-        ended = deliver-accepted ∙ sym (on-true _ r (on-true _ q refl))
+      -- one that ends the phase with a no
+      pub aborted : isIn p (ownerAt f a .state) a ≡ true → verdictOn f p a b ≡ No
+          → applyOf f (Deliver p a b) ≡ stepped (afterAbort f a (heardRow f p a b)) (said.Aborted a)
+      aborted r e = heard No r e
 
+    -- the q-th, where all say yes
     pub write-issued : CanDeliver f Read a b → isReading (ownerAt f a .state) a ≡ true → atQuorum (heardRow f Read a b .read) (f .n) ≡ true
+        → allYes (heardRow f Read a b .read) (f .n) ≡ true
         → applyOf f (Deliver Read a b) ≡ stepped (afterIssue f a (heardRow f Read a b) (revisionOf (heardRow f Read a b) (f .n))) (said.WriteIssued (revisionOf (heardRow f Read a b) (f .n)))
-    write-issued d r q = ended Read d r q
+    write-issued d r q y = heard Read d Yes r (verdict-yes _ (f .n) Read q y)
 
-    module _ (d : CanDeliver f Write a b) (r : isWriting (ownerAt f a .state) a ≡ true) (q : atQuorum (heardRow f Write a b .write) (f .n) ≡ true) where
-      pub write-decided : allYes (heardRow f Write a b .write) (f .n) ≡ true
-          → applyOf f (Deliver Write a b) ≡ stepped (afterDecision f a (heardRow f Write a b)) (said.Decided (rowAt f a .written))
-      unfolding writeEndedOn
-      write-decided t = ended Write d r q ∙ sym (on-true _ t refl)
-
-      pub write-aborted : allYes (heardRow f Write a b .write) (f .n) ≡ false
-          → applyOf f (Deliver Write a b) ≡ stepped (afterAbort f a (heardRow f Write a b)) (said.Aborted a)
-      unfolding writeEndedOn
-      write-aborted t = ended Write d r q ∙ sym (on-false _ t refl)
+    pub write-decided : CanDeliver f Write a b → isWriting (ownerAt f a .state) a ≡ true → atQuorum (heardRow f Write a b .write) (f .n) ≡ true
+        → allYes (heardRow f Write a b .write) (f .n) ≡ true
+        → applyOf f (Deliver Write a b) ≡ stepped (afterDecision f a (heardRow f Write a b)) (said.Decided (rowAt f a .written))
+    write-decided d r q y = heard Write d Yes r (verdict-yes _ (f .n) Write q y)

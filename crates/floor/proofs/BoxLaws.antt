@@ -1,7 +1,6 @@
 -- What a step does to the boxes: which stop, and where their ranks and values come from.
-use Prim.Native.Nat.{ℕ, _<_, max}
-use native.Mathlib.Nat.{le-refl, le-max-left}
-use native.Mathlib.Decide.{decLe}
+use Prim.Native.Nat.{ℕ, _<_}
+use native.Mathlib.Nat.{le-refl}
 use native.Mathlib.Omega.{arith}
 use mathlib.Core.Path.{_≡_, refl}
 use mathlib.Core.Logic.{_⊎_, inl, inr}
@@ -10,8 +9,9 @@ use Rattle.base.proofs.Choices.{by-test}
 use Rattle.register.specs.Register.{rmwRead, rmwWrite, takes}
 use Rattle.register.specs.declared.Register.{Register}
 use Rattle.register.specs.declared.StorageBox.{StorageBox}
+use Rattle.register.specs.declared.ReadDone.{ReadDone}
 use Rattle.register.specs.declared.WriteDone.{WriteDone}
-use Rattle.register.proofs.RegisterLaws.{takes-means}
+use Rattle.register.proofs.RegisterLaws.{ReadCase, outranked, answered, read-case, takes-means}
 use Rattle.floor.specs.Floors.{boxAt, rowAt}
 use Rattle.floor.specs.Step.{applyOf}
 use Rattle.floor.specs.Claims.{Grown, BoxMove, box-kept, box-serves, box-stops}
@@ -28,18 +28,13 @@ use Rattle.floor.proofs.Moves.{apply-box}
 grown-same : (f : Floor) (x : Register) → Grown f x x
 grown-same f x = record { read-up = le-refl (x .read); write-up = le-refl (x .write); read-from = inl refl; held-from = inl (refl, refl) }
 
-larger : (m r : ℕ) → (max m r ≡ m) ⊎ (max m r ≡ r)
-larger m r = elim (decLe m r) [ yes l ↦ inr (omega arith) | no l ↦ inl (omega (arith, l)) ]
-
 module _ (f : Floor) (x : Register) (a : ℕ) (h : a < f .used) where
+  grown-case : {d : ReadDone} → ReadCase x (rowAt f a .rank) d → Grown f x (d .register)
+  grown-case (outranked _) = grown-same f x
+  grown-case (answered l _) = record { read-up = l; write-up = le-refl (x .write); read-from = inr (a, h, refl); held-from = inl (refl, refl) }
+
   grown-read : Grown f x (rmwRead x (rowAt f a .rank) .register)
-  unfolding rmwRead
-  grown-read = record {
-    read-up = le-max-left (x .read) (rowAt f a .rank);
-    write-up = le-refl (x .write);
-    read-from = elim (larger (x .read) (rowAt f a .rank)) [ inl e ↦ inl e | inr e ↦ inr (a, h, e) ];
-    held-from = inl (refl, refl);
-  }
+  grown-read = grown-case (read-case x (rowAt f a .rank))
 
   grown-write : Grown f x (rmwWrite x (rowAt f a .rank) (rowAt f a .written) .register)
   unfolding rmwWrite

@@ -12,23 +12,25 @@ use Rattle.base.specs.Choice.{if_then_else_}
 use Rattle.base.proofs.Cases.{clash}
 use Rattle.base.proofs.Choices.{by-test}
 use Rattle.register.specs.Register.{box0}
-use Rattle.requests.specs.Requests.{ofPhase}
+use Rattle.requests.specs.Requests.{verdictOf}
 use Rattle.requests.specs.declared.Phase.{Phase}
 use Rattle.requests.specs.declared.Phase.the-variants.{Read, Write}
+use Rattle.requests.specs.declared.Verdict.{Verdict}
+use Rattle.requests.specs.declared.Verdict.the-variants.{Open, Yes, No}
 use Rattle.commands.specs.Outcomes.{isRefused}
 use Rattle.commands.specs.declared.Command.{Command}
 use Rattle.commands.specs.declared.Command.the-variants.{Begin, Serve, Deliver, Stop, Leave, Malformed}
 use Rattle.commands.specs.declared.Outcome.the-variants.{Refused}
 use Rattle.attempts.specs.Stations.{station0}
-use Rattle.attempts.specs.Rows.{row0, rowHeard}
+use Rattle.attempts.specs.Rows.{row0, requestsHeard, rowHeard}
 use Rattle.attempts.specs.declared.Row.{Row}
-use Rattle.parts.specs.Parts.{placeIn, attemptIn, boxIn, stationIn, beginIn, serveIn, deliverIn, stopIn, leaveIn, refusalIn, begun, served, receivedOnly, readEnded, writeEnded, delivered, turnedBack, effectIn, changeIn}
+use Rattle.parts.specs.Parts.{placeIn, attemptIn, boxIn, stationIn, beginIn, serveIn, deliverIn, stopIn, leaveIn, refusalIn, begun, served, receivedOnly, readEnded, heardBy, delivered, turnedBack, effectIn, changeIn}
 use Rattle.parts.specs.declared.Parts.{Parts}
 use Rattle.parts.specs.declared.Changed.{Changed}
 use Rattle.parts.proofs.PlaceLaws.{place-same}
 use Rattle.floor.specs.Floors.{boxAt, stationAt, rowAt}
 use Rattle.floor.specs.Refusals.{beginRefusal, serveRefusal, deliverRefusal, stopRefusal, leaveRefusal, refusalOn}
-use Rattle.floor.specs.Effects.{heardRow, receivedOn, readEndedOn, writeEndedOn, deliveredOn, effectOn}
+use Rattle.floor.specs.Effects.{receivedOn, verdictOn, heardOn, deliveredOn, effectOn}
 use Rattle.floor.specs.Step.{applyOf}
 use Rattle.floor.specs.Claims.{Sound}
 use Rattle.floor.specs.declared.Floor.{Floor}
@@ -118,17 +120,24 @@ module _ (f : Floor) (z : Sound f) where
     received : (p : Phase) → stores p (receivedOnly (look f (Deliver p a b)) a (heardIn p)) ≡ receivedOn f p a b
     received p = rw (at-row a h, at-owner a h, set-getD (f .boxes) _ box0, set-getD (f .stations) _ station0)
 
-    ended : (p : Phase) → stores p (ofPhase p (readEnded (look f (Deliver p a b)) a (heardIn p)) (writeEnded (look f (Deliver p a b)) a (heardIn p)))
-        ≡ ofPhase p (readEndedOn f a (heardRow f p a b)) (writeEndedOn f a (heardRow f p a b))
-    unfolding readEnded writeEnded writeEndedOn
-    ended Read = rw (at-row a h, at-owner a h, set-getD (f .boxes) _ box0)
-    ended Write =
-        through (stores Write) (rw (at-row a h)) (rw (at-row a h, at-owner a h, set-getD (f .boxes) _ box0)) (rw (at-row a h, at-owner a h, set-getD (f .boxes) _ box0))
+    -- what the answers received come to
+    heard : (p : Phase) (v : Verdict) → stores p (heardBy (look f (Deliver p a b)) p a (heardIn p) v) ≡ heardOn f p a b v
+    unfolding readEnded
+    heard p Open = received p
+    heard Read Yes = rw (at-row a h, at-owner a h, set-getD (f .boxes) _ box0)
+    heard Write Yes = rw (at-row a h, at-owner a h, set-getD (f .boxes) _ box0)
+    heard p No = rw (at-row a h, at-owner a h, set-getD (f .boxes) _ box0)
+
+    abbrev verdictIn : Phase → Verdict
+    verdictIn p = verdictOf p (requestsHeard p (look f (Deliver p a b) .row) b) (f .n)
+
+    same-verdict : (p : Phase) → verdictIn p ≡ verdictOn f p a b
+    same-verdict p = rw (at-row a h)
 
     deliver-join : (p : Phase) → stores p (delivered (look f (Deliver p a b)) p a b) ≡ deliveredOn f p a b
     unfolding delivered deliveredOn
     deliver-join p =
-        through (stores p) (rw (at-row a h, at-owner a h)) (through (stores p) (rw (at-row a h)) (ended p) (received p)) (received p)
+        through (stores p) (rw (at-row a h, at-owner a h)) (heard p (verdictIn p) ∙ ap (heardOn f p a b) (same-verdict p)) (received p)
 
   pub effect-join : (c : Command) → refusalOn f c ≡ 0 → accepted f c (effectIn (look f c) c) ≡ effectOn f c
   unfolding begun served

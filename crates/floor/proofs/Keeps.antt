@@ -30,13 +30,14 @@ use Rattle.commands.specs.declared.Command.{Command}
 use Rattle.commands.specs.declared.Command.the-variants.{Begin, Serve, Deliver, Stop, Leave, Malformed}
 use Rattle.base.specs.Claims.{Sizes}
 use Rattle.base.proofs.SizeLaws.{sizes-mean}
-use Rattle.requests.specs.Requests.{ofPhase}
 use Rattle.requests.specs.declared.Phase.{Phase}
 use Rattle.requests.specs.declared.Phase.the-variants.{Read, Write}
+use Rattle.requests.specs.declared.Verdict.{Verdict}
+use Rattle.requests.specs.declared.Verdict.the-variants.{Open, Yes, No}
 use Rattle.requests.proofs.RequestLaws.{waiting-length, served-length}
 use Rattle.base.proofs.Stores.{set-all, set-at}
 use Rattle.register.specs.declared.Register.{Register}
-use Rattle.floor.specs.Effects.{afterBegin, readEndedOn, writeEndedOn, deliveredOn, effectOn}
+use Rattle.floor.specs.Effects.{afterBegin, verdictOn, heardOn, deliveredOn, effectOn}
 use Rattle.floor.proofs.StepCases.{StepCase, turned, began, served, heard, issued, decided, aborted, stopped, left, apply-case, apply-refusal}
 
 -- "Floor, record and reply stay unchanged": a refused step hands back the very floor
@@ -53,7 +54,7 @@ sizes (turned k t) = record { boxes = refl; stations = refl }
 sizes (began z d) = record { boxes = refl; stations = refl }
 sizes (served z d) = record { boxes = refl; stations = refl }
 sizes (heard z d q) = record { boxes = refl; stations = refl }
-sizes (issued z d r q) = record { boxes = refl; stations = refl }
+sizes (issued z d r q t) = record { boxes = refl; stations = refl }
 sizes (decided z d r q t) = record { boxes = refl; stations = refl }
 sizes (aborted z d r q t) = record { boxes = refl; stations = refl }
 sizes (stopped z d) = record { boxes = refl; stations = refl }
@@ -100,7 +101,7 @@ keeps (turned k t) y = y
 keeps {f} (began {s = s} {round = r} {v = v} z d) y = begun-sound f s r v (d .station) (d .row) y
 keeps {f} (served {a = a} z d) y = sound-on f _ refl refl refl (owner-kept (f .rows) a _ refl) y
 keeps {f} (heard {a = a} z d q) y = sound-on f _ refl refl refl (owner-kept (f .rows) a _ refl) y
-keeps {f} (issued {a = a} z d r q) y = sound-on f _ refl refl refl (owner-kept (f .rows) a _ refl) y
+keeps {f} (issued {a = a} z d r q t) y = sound-on f _ refl refl refl (owner-kept (f .rows) a _ refl) y
 keeps {f} (decided {a = a} z d r q t) y = sound-on f _ refl refl refl (owner-kept (f .rows) a _ refl) y
 keeps {f} (aborted {a = a} z d r q t) y = sound-on f _ refl refl refl (owner-kept (f .rows) a _ refl) y
 keeps {f} (stopped z d) y = sound-on f _ refl refl refl (λ a. refl) y
@@ -114,19 +115,17 @@ pub step-keeps : (f : Floor) (r : List ℕ) → Sound f → Sound (stepOf f r .f
 unfolding stepOf
 step-keeps f r = apply-keeps f (commandOf r)
 
-ended-said : (p : Phase) (f : Floor) (a : ℕ) (w : Row) → isRefused (ofPhase p (readEndedOn f a w) (writeEndedOn f a w) .outcome) ≡ false
-unfolding writeEndedOn
-ended-said Read f a w = refl
-ended-said Write f a w = by-test (λ (x : Stepped). isRefused (x .outcome) ≡ false) _ _ _ (λ _. refl) (λ _. refl)
+heard-said : (p : Phase) (v : Verdict) (f : Floor) (a b : ℕ) → isRefused (heardOn f p a b v .outcome) ≡ false
+heard-said p Open f a b = refl
+heard-said Read Yes f a b = refl
+heard-said Write Yes f a b = refl
+heard-said p No f a b = refl
 
 pub effect-said : (f : Floor) (c : Command) → refusalOn f c ≡ 0 → isRefused (effectOn f c .outcome) ≡ false
 unfolding deliveredOn
 effect-said f (Begin s round v) e = refl
 effect-said f (Serve p a b) e = refl
-effect-said f (Deliver p a b) e = by-test P _ _ _ (λ _. by-test P _ _ _ (λ _. ended-said p f a _) (λ _. refl)) (λ _. refl)
-  where
-    P : Stepped → Type 0
-    P x = isRefused (x .outcome) ≡ false
+effect-said f (Deliver p a b) e = by-test (λ (x : Stepped). isRefused (x .outcome) ≡ false) _ _ _ (λ _. heard-said p (verdictOn f p a b) f a b) (λ _. refl)
 effect-said f (Stop b) e = refl
 effect-said f (Leave s) e = refl
 effect-said f Malformed e = absurd (omega (arith, e))
@@ -141,7 +140,7 @@ row-lengths f y a h = record { slots = λ p. y .slots p a h; answers = y .answer
 
 served-lengths : (p : Phase) (w : Row) (g : Register) (b : ℕ) → RowLengths w → RowLengths (rowServed p w g b)
 served-lengths Read w g b y = record {
-  slots = λ q. elim q [ Read ↦ served-length (w .read) b true ∙ y .slots Read | Write ↦ y .slots Write ];
+  slots = λ q. elim q [ Read ↦ served-length (w .read) b _ ∙ y .slots Read | Write ↦ y .slots Write ];
   answers = length-set (w .answers) b _ ∙ y .answers;
 }
 served-lengths Write w g b y = record {
@@ -181,10 +180,10 @@ lengths {f} (began {s = s} {round = r} {v = v} z d) y = lengths-on f _ (f .used)
 lengths {f} (served {p = p} {a = a} {b = b} z d) y =
     lengths-on f _ a _ y (length-set (f .boxes) b _) refl refl (λ h. served-lengths p (rowAt f a) _ b (row-lengths f y a h))
 lengths {f} (heard {p = p} {a = a} {b = b} z d q) y = lengths-on f _ a _ y refl refl refl (λ h. heard-lengths p (rowAt f a) b (row-lengths f y a h))
-lengths {f} (issued {a = a} {b = b} z d r q) y =
+lengths {f} (issued {a = a} {b = b} z d r q t) y =
     lengths-on f _ a _ y refl (length-set (f .stations) (rowAt f a .station) _) refl (λ h. issued-lengths _ _ (f .n) (heard-lengths Read (rowAt f a) b (row-lengths f y a h)))
 lengths {f} (decided {a = a} {b = b} z d r q t) y = lengths-on f _ a _ y refl (length-set (f .stations) (rowAt f a .station) _) refl (λ h. heard-lengths Write (rowAt f a) b (row-lengths f y a h))
-lengths {f} (aborted {a = a} {b = b} z d r q t) y = lengths-on f _ a _ y refl (length-set (f .stations) (rowAt f a .station) _) refl (λ h. heard-lengths Write (rowAt f a) b (row-lengths f y a h))
+lengths {f} (aborted {p = p} {a = a} {b = b} z d r q t) y = lengths-on f _ a _ y refl (length-set (f .stations) (rowAt f a .station) _) refl (λ h. heard-lengths p (rowAt f a) b (row-lengths f y a h))
 lengths {f} (stopped {b = b} z d) y =
     record { boxes = length-set (f .boxes) b _ ∙ y .boxes; stations = y .stations; rows = y .rows; slots = y .slots; answers = y .answers }
 lengths {f} (left {s = s} z d) y =

@@ -34,7 +34,7 @@ station-moves (turned k t) j = station-kept
 station-moves {f} (began {s = s} z d) j = stations-moved f _ _ s _ (station-begins refl (d .here) (d .free) (d .later)) j
 station-moves (served z d) j = station-kept
 station-moves (heard z d q) j = station-kept
-station-moves {f} (issued {a = a} z d r q) j = stations-moved f _ _ (rowAt f a .station) _ (station-issues refl (d .used) refl r) j
+station-moves {f} (issued {a = a} z d r q t) j = stations-moved f _ _ (rowAt f a .station) _ (station-issues refl (d .used) refl r) j
 station-moves {f} (decided {a = a} z d r q t) j = stations-moved f _ _ (rowAt f a .station) _ (station-decides refl (d .used) refl r refl) j
 station-moves {f} (aborted {a = a} z d r q t) j = stations-moved f _ _ (rowAt f a .station) _ (station-aborts refl (d .used) refl r) j
 station-moves (stopped z d) j = station-kept
@@ -45,7 +45,7 @@ box-moves (turned k t) j = box-kept
 box-moves (began z d) j = box-kept
 box-moves {f} (served {b = b} z d) j = boxes-moved f _ _ b _ (box-serves refl (d .used) (d .answers)) j
 box-moves (heard z d q) j = box-kept
-box-moves (issued z d r q) j = box-kept
+box-moves (issued z d r q t) j = box-kept
 box-moves (decided z d r q t) j = box-kept
 box-moves (aborted z d r q t) j = box-kept
 box-moves {f} (stopped {b = b} z d) j = boxes-moved f _ _ b _ (box-stops refl (d .answers)) j
@@ -56,7 +56,7 @@ row-moves (turned k t) j = row-kept
 row-moves {f} (began z d) j = rows-moved f _ _ (f .used) _ (row-begins refl (d .station) refl) j
 row-moves {f} (served {a = a} z d) j = rows-moved f _ _ a _ (row-served refl d) j
 row-moves {f} (heard {a = a} z d q) j = rows-moved f _ _ a _ (row-heard refl d) j
-row-moves {f} (issued {a = a} z d r q) j = rows-moved f _ _ a _ (row-issues refl d r q refl) j
+row-moves {f} (issued {a = a} z d r q t) j = rows-moved f _ _ a _ (row-issues refl d r q t refl) j
 row-moves {f} (decided {a = a} z d r q t) j = rows-moved f _ _ a _ (row-heard refl d) j
 row-moves {f} (aborted {a = a} z d r q t) j = rows-moved f _ _ a _ (row-heard refl d) j
 row-moves (stopped z d) j = row-kept

@@ -8,14 +8,14 @@ use borrow.Author.Tests.{eq-eqb, ne-eqb}
 use Rattle.base.specs.Choice.{if_then_else_}
 use Rattle.base.proofs.Choices.{on-true, on-false, choice-ap}
 use Rattle.floor.specs.Sound.{soundOf}
-use Rattle.requests.specs.Requests.{ofPhase, atQuorum}
 use Rattle.requests.specs.declared.Phase.{Phase}
 use Rattle.requests.specs.declared.Phase.the-variants.{Read, Write}
+use Rattle.requests.specs.declared.Verdict.{Verdict}
+use Rattle.requests.specs.declared.Verdict.the-variants.{Open, Yes, No}
 use Rattle.attempts.specs.Stations.{isIn}
-use Rattle.attempts.specs.Rows.{revisionOf, requestsHeard}
-use Rattle.floor.specs.Floors.{rowAt, ownerAt}
+use Rattle.floor.specs.Floors.{ownerAt}
 use Rattle.floor.specs.Refusals.{refusalOn}
-use Rattle.floor.specs.Effects.{heardRow, readEndedOn, writeEndedOn, deliveredOn, effectOn, writeEndedValue, deliveredValue, valueOn}
+use Rattle.floor.specs.Effects.{verdictOn, heardOn, deliveredOn, effectOn, heardValue, deliveredValue, valueOn}
 use Rattle.commands.specs.Outcomes.{numberOf, valueOf, isRefused}
 use Rattle.floor.specs.Step.{applyOf, refusalOf, valueSaid}
 use Rattle.floor.specs.declared.Floor.{Floor}
@@ -33,18 +33,15 @@ abbrev worth : Stepped → ℕ
 worth s = valueOf (s .outcome)
 
 module _ (f : Floor) (a b : ℕ) where
-  ended-value : (p : Phase) → worth (ofPhase p (readEndedOn f a (heardRow f p a b)) (writeEndedOn f a (heardRow f p a b)))
-      ≡ ofPhase p (revisionOf (heardRow f p a b) (f .n)) (writeEndedValue f a (heardRow f p a b))
-  unfolding writeEndedOn
-  ended-value Read = refl
-  ended-value Write = choice-ap worth _ _ _
+  heard-value : (p : Phase) (v : Verdict) → worth (heardOn f p a b v) ≡ heardValue f p a b v
+  heard-value p Open = refl
+  heard-value Read Yes = refl
+  heard-value Write Yes = refl
+  heard-value p No = refl
 
   deliver-value : (p : Phase) → worth (deliveredOn f p a b) ≡ deliveredValue f p a b
   unfolding deliveredOn deliveredValue
-  deliver-value p =
-      choice-ap worth _ _ _
-      ∙ ap (λ (v : ℕ). if isIn p (ownerAt f a .state) a then v else a)
-      (choice-ap worth _ _ _ ∙ ap (λ (v : ℕ). if atQuorum (requestsHeard p (rowAt f a) b) (f .n) then v else a) (ended-value p))
+  deliver-value p = choice-ap worth _ _ _ ∙ ap (λ (v : ℕ). if isIn p (ownerAt f a .state) a then v else a) (heard-value p (verdictOn f p a b))
 
 effect-value : (f : Floor) (c : Command) → worth (effectOn f c) ≡ valueOn f c
 effect-value f (Begin s round v) = refl

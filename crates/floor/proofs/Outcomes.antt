@@ -33,13 +33,14 @@ meaning {f} y (served {p = p} {a = a} {b = b} z d) = record {
   storage = box-stored f y z b _ (d .box);
 }
 meaning {f} y (heard {p = p} {a = a} {b = b} z d q) = record { phase = p; box = b; command = refl; may = d; row = used-stored f y z a _ (d .used) }
-meaning {f} y (issued {a = a} {b = b} z d r q) = record {
+meaning {f} y (issued {a = a} {b = b} z d r q t) = record {
   attempt = a;
   box = b;
   command = refl;
   may = d;
   reading = r;
   quorum = q;
+  answered = t;
   revision = refl;
   row = used-stored f y z a _ (d .used);
   owner = owner-stored f y z a _ (d .used);
@@ -52,10 +53,15 @@ meaning {f} y (decided {a = a} {b = b} z d r q t) = record {
   written = refl;
   owner = owner-stored f y z a _ (d .used);
 }
-meaning {f} y (aborted {a = a} {b = b} z d r q t) = record {
+meaning {f} y (aborted {p = p} {a = a} {b = b} z d r q t) = record {
+  phase = p;
   box = b;
-  answer = record { command = refl; may = d; writing = r; quorum = q; row = used-stored f y z a _ (d .used) };
-  taken = t;
+  command = refl;
+  may = d;
+  current = r;
+  no = q;
+  quorum = t;
+  row = used-stored f y z a _ (d .used);
   owner = owner-stored f y z a _ (d .used);
 }
 meaning {f} y (stopped {b = b} z d) = record { command = refl; may = d; storage = box-stored f y z b _ (d .box) }

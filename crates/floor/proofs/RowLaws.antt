@@ -35,7 +35,7 @@ used-rises (turned k t) = omega arith
 used-rises (began z d) = refl
 used-rises (served z d) = omega arith
 used-rises (heard z d q) = omega arith
-used-rises (issued z d r q) = omega arith
+used-rises (issued z d r q t) = omega arith
 used-rises (decided z d r q t) = omega arith
 used-rises (aborted z d r q t) = omega arith
 used-rises (stopped z d) = omega arith
@@ -46,7 +46,7 @@ begun-next a (turned k t) e = cc
 begun-next a (began z d) e = cc
 begun-next a (served z d) e = cc
 begun-next a (heard z d q) e = cc
-begun-next a (issued z d r q) e = cc
+begun-next a (issued z d r q t) e = cc
 begun-next a (decided z d r q t) e = cc
 begun-next a (aborted z d r q t) e = cc
 begun-next a (stopped z d) e = cc
@@ -69,7 +69,7 @@ module _ {f : Floor} {c : Command} {j : ℕ} where
   attempt-kept row-kept h = record { station = refl; rank = refl; offer = refl }
   attempt-kept (row-begins q l e) h = absurd (omega arith)
   attempt-kept (row-served q d) h = record { station = refl; rank = refl; offer = refl }
-  attempt-kept (row-issues q d r t e) h = record { station = refl; rank = refl; offer = refl }
+  attempt-kept (row-issues q d r t u e) h = record { station = refl; rank = refl; offer = refl }
   attempt-kept (row-heard q d) h = record { station = refl; rank = refl; offer = refl }
 
 -- the row j before and after the step, and what the step said
@@ -104,9 +104,9 @@ module _ (f : Floor) (a b : ℕ) where
     unfolding rows.issued
     heard-after p (turned k t) e = clash refl e
     heard-after p (heard z d q) e = (d, ap (λ (w : Row). requestsOf p w .heard) (used-stored f y z a _ (d .used)) ∙ ap (λ (h : Requests). h .heard) (requests-put p (rowAt f a) _))
-    heard-after _ (issued z d r q) e = (d, ap (λ (w : Row). w .read .heard) (used-stored f y z a _ (d .used)))
+    heard-after _ (issued z d r q t) e = (d, ap (λ (w : Row). w .read .heard) (used-stored f y z a _ (d .used)))
     heard-after _ (decided z d r q t) e = (d, ap (λ (w : Row). w .write .heard) (used-stored f y z a _ (d .used)))
-    heard-after _ (aborted z d r q t) e = (d, ap (λ (w : Row). w .write .heard) (used-stored f y z a _ (d .used)))
+    heard-after p (aborted z d r q t) e = (d, ap (λ (w : Row). requestsOf p w .heard) (used-stored f y z a _ (d .used)) ∙ ap (λ (h : Requests). h .heard) (requests-put p (rowAt f a) _))
 
     -- each accepted delivery makes the answers received from boxes below n one more
     pub apply-counted : (p : Phase) → isRefused (applyOf f (Deliver p a b) .outcome) ≡ false

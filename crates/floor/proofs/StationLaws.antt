@@ -18,7 +18,7 @@ use Rattle.commands.specs.declared.Outcome.{Outcome}
 use Rattle.commands.specs.declared.Outcome.the-variants.{Begun, Decided, Gone}
 use Rattle.commands.specs.declared.Command.{Command}
 use Rattle.base.proofs.Cases.{clash}
-use Rattle.attempts.proofs.StationTests.{is-reading, is-writing}
+use Rattle.attempts.proofs.StationTests.{is-reading, is-writing, here-in}
 use Rattle.floor.proofs.Moves.{apply-station}
 
 -- reading or writing in the attempt a
@@ -35,7 +35,7 @@ module _ {f : Floor} {c : Command} {j : ℕ} where
   gone-kept (station-begins q h i l) e = clash e h
   gone-kept (station-issues {a = a} q u w r) e = clash e (ap isGone (is-reading (stationAt f j .state) a r))
   gone-kept (station-decides {a = a} q u w r v) e = clash e (ap isGone (is-writing (stationAt f j .state) a r))
-  gone-kept (station-aborts {a = a} q u w r) e = clash e (ap isGone (is-writing (stationAt f j .state) a r))
+  gone-kept (station-aborts {p = p} {a = a} q u w r) e = clash e (here-in p (stationAt f j .state) a r)
   gone-kept (station-leaves q h) e = refl
 
   gone-by : {o : Outcome} {x : Station} → StationMove f c j o x → isGone (x .state) ≡ true → (isGone (stationAt f j .state) ≡ true) ⊎ (o ≡ Gone j)

@@ -15,7 +15,7 @@ use Rattle.floor.specs.Claims.{Sound, CanBegin, CanServe, CanDeliver, Ca
 use Rattle.commands.specs.Commands.{commandOf}
 use Rattle.attempts.specs.Rows.{revisionOf, requestsHeard}
 use Rattle.floor.specs.Refusals.{refusalOn}
-use Rattle.floor.specs.Effects.{heardRow, stepped, afterBegin, afterServe, afterIssue, afterDecision, afterAbort, afterStop, afterLeave, readEndedOn, writeEndedOn, deliveredOn, effectOn}
+use Rattle.floor.specs.Effects.{heardRow, stepped, afterBegin, afterServe, afterIssue, afterDecision, afterAbort, afterStop, afterLeave, heardOn, deliveredOn, effectOn}
 use Rattle.commands.specs.Outcomes.{isRefused}
 use Rattle.floor.specs.Step.{refused, playOf, applyOf, stepOf}
 use Rattle.floor.specs.declared.Floor.{Floor}
@@ -24,9 +24,11 @@ use Rattle.commands.specs.declared.Outcome.the-variants as said
 use Rattle.commands.specs.declared.Command.{Command}
 use Rattle.commands.specs.declared.Command.the-variants.{Begin, Serve, Deliver, Stop, Leave, Malformed}
 use Rattle.floor.proofs.SoundLaws.{sound-means}
-use Rattle.requests.specs.Requests.{ofPhase, atQuorum, allYes}
+use Rattle.requests.specs.Requests.{atQuorum, allYes}
 use Rattle.requests.specs.declared.Phase.{Phase}
 use Rattle.requests.specs.declared.Phase.the-variants.{Read, Write}
+use Rattle.requests.specs.declared.Verdict.{Verdict}
+use Rattle.requests.proofs.RequestLaws.{Came, still, agreed, denied, verdict-came}
 use Rattle.base.proofs.Cases.{clash}
 use Rattle.floor.proofs.RefusalLaws.{begin-means, serve-means, deliver-means, stop-means, leave-means, refusal-numbered}
 
@@ -38,13 +40,14 @@ pub data StepCase (f : Floor) : Command → Stepped → Type 0 where
       → (isIn p (ownerAt f a .state) a ≡ false) ⊎ (atQuorum (requestsHeard p (rowAt f a) b) (f .n) ≡ false)
       → StepCase f (Deliver p a b) (stepped (withRow f a (heardRow f p a b)) (said.Received a))
   issued : {a b : ℕ} → Sound f → CanDeliver f Read a b → isReading (ownerAt f a .state) a ≡ true → atQuorum (heardRow f Read a b .read) (f .n) ≡ true
+      → allYes (heardRow f Read a b .read) (f .n) ≡ true
       → StepCase f (Deliver Read a b) (stepped (afterIssue f a (heardRow f Read a b) (revisionOf (heardRow f Read a b) (f .n))) (said.WriteIssued (revisionOf (heardRow f Read a b) (f .n))))
   decided : {a b : ℕ} → Sound f → CanDeliver f Write a b → isWriting (ownerAt f a .state) a ≡ true → atQuorum (heardRow f Write a b .write) (f .n) ≡ true
       → allYes (heardRow f Write a b .write) (f .n) ≡ true
       → StepCase f (Deliver Write a b) (stepped (afterDecision f a (heardRow f Write a b)) (said.Decided (rowAt f a .written)))
-  aborted : {a b : ℕ} → Sound f → CanDeliver f Write a b → isWriting (ownerAt f a .state) a ≡ true → atQuorum (heardRow f Write a b .write) (f .n) ≡ true
-      → allYes (heardRow f Write a b .write) (f .n) ≡ false
-      → StepCase f (Deliver Write a b) (stepped (afterAbort f a (heardRow f Write a b)) (said.Aborted a))
+  aborted : {p : Phase} {a b : ℕ} → Sound f → CanDeliver f p a b → isIn p (ownerAt f a .state) a ≡ true
+      → allYes (requestsHeard p (rowAt f a) b) (f .n) ≡ false → (p ≡ Write → atQuorum (requestsHeard p (rowAt f a) b) (f .n) ≡ true)
+      → StepCase f (Deliver p a b) (stepped (afterAbort f a (heardRow f p a b)) (said.Aborted a))
   stopped : {b : ℕ} → Sound f → CanStop f b → StepCase f (Stop b) (stepped (afterStop f b) (said.Stopped b))
   left : {s : ℕ} → Sound f → CanLeave f s → StepCase f (Leave s) (stepped (afterLeave f s) (said.Gone s))
 
@@ -54,16 +57,17 @@ module _ (f : Floor) (z : Sound f) where
     abbrev Leads : Phase → Stepped → Type 0
     Leads p y = StepCase f (Deliver p a b) y
 
-    -- the q-th answer of a phase, for a station that is in it
-    ended-case : (p : Phase) → CanDeliver f p a b → isIn p (ownerAt f a .state) a ≡ true → atQuorum (requestsHeard p (rowAt f a) b) (f .n) ≡ true
-        → Leads p (ofPhase p (readEndedOn f a (heardRow f p a b)) (writeEndedOn f a (heardRow f p a b)))
-    unfolding writeEndedOn
-    ended-case Read d e q = issued z d e q
-    ended-case Write d e q = by-test (Leads Write) _ _ _ (λ t. decided z d e q t) (λ t. aborted z d e q t)
+    -- what the answers received come to, for a station that is in that phase
+    heard-case : (p : Phase) {v : Verdict} → CanDeliver f p a b → isIn p (ownerAt f a .state) a ≡ true → Came p (requestsHeard p (rowAt f a) b) (f .n) v
+        → Leads p (heardOn f p a b v)
+    heard-case p d e (still q y) = heard z d (inr q)
+    heard-case Read d e (agreed q y) = issued z d e q y
+    heard-case Write d e (agreed q y) = decided z d e q y
+    heard-case p d e (denied y q) = aborted z d e y q
 
     deliver-case : (p : Phase) → CanDeliver f p a b → Leads p (deliveredOn f p a b)
     unfolding deliveredOn
-    deliver-case p d = by-test (Leads p) _ _ _ (λ e. by-test (Leads p) _ _ _ (ended-case p d e) (λ q. heard z d (inr q))) (λ e. heard z d (inl e))
+    deliver-case p d = by-test (Leads p) _ _ _ (λ e. heard-case p d e (verdict-came (requestsHeard p (rowAt f a) b) (f .n) p)) (λ e. heard z d (inl e))
 
   accepted-case : (c : Command) → refusalOn f c ≡ 0 → StepCase f c (effectOn f c)
   accepted-case (Begin s round v) e = began z (begin-means f s round v e)
@@ -98,7 +102,7 @@ refusal (turned k t) e = record { number = k; cause = t; is = refl }
 refusal (began z d) e = clash e refl
 refusal (served z d) e = clash e refl
 refusal (heard z d q) e = clash e refl
-refusal (issued z d r q) e = clash e refl
+refusal (issued z d r q t) e = clash e refl
 refusal (decided z d r q t) e = clash e refl
 refusal (aborted z d r q t) e = clash e refl
 refusal (stopped z d) e = clash e refl

@@ -20,8 +20,8 @@ use Rattle.commands.specs.declared.Command.{Command}
 use Rattle.commands.specs.declared.Command.the-variants.{Begin, Serve, Deliver, Stop, Leave}
 use Rattle.commands.specs.declared.Outcome.{Outcome}
 use Rattle.commands.specs.declared.Outcome.the-variants.{Begun, Served, Received, Aborted, WriteIssued, Decided, Stopped, Gone, Refused}
-use Rattle.attempts.specs.Stations.{isGone, isBusy, isReading, isWriting, withState}
-use Rattle.attempts.specs.Rows.{requestsOf, newRow, revisionOf, rowServed, registerServed}
+use Rattle.attempts.specs.Stations.{isGone, isBusy, isReading, isWriting, isIn, withState}
+use Rattle.attempts.specs.Rows.{requestsOf, newRow, revisionOf, rowServed, registerServed, requestsHeard}
 use Rattle.attempts.specs.Rows as rows
 use Rattle.attempts.specs.declared.State.the-variants as state
 use Rattle.attempts.specs.declared.Station.{Station}
@@ -131,6 +131,7 @@ module _ (f : Floor) (c : Command) (g : Floor) where
     pub may : CanDeliver f Read attempt box
     pub reading : isReading (ownerAt f attempt .state) attempt ≡ true
     pub quorum : atQuorum (heardRow f Read attempt box .read) (f .n) ≡ true
+    pub answered : allYes (heardRow f Read attempt box .read) (f .n) ≡ true
     pub revision : v ≡ revisionOf (heardRow f Read attempt box) (f .n)
     pub row : rowAt g attempt ≡ rows.issued (heardRow f Read attempt box) v (f .n)
     pub owner : stationAt g (rowAt f attempt .station) ≡ withState (ownerAt f attempt) (state.Writing attempt)
@@ -151,10 +152,16 @@ module _ (f : Floor) (c : Command) (g : Floor) where
     pub written : v ≡ rowAt f attempt .written
     pub owner : stationAt g (rowAt f attempt .station) ≡ decider f attempt (heardRow f Write attempt box)
 
+  -- an answer received says no: to a read "outranked", to a write, with the q-th answer, "not taken"
   pub record AbortedBy (a : ℕ) : Type 0 where
+    pub phase : Phase
     pub box : ℕ
-    pub answer : LastAnswer a box
-    pub taken : allYes (heardRow f Write a box .write) (f .n) ≡ false
+    pub command : c ≡ Deliver phase a box
+    pub may : CanDeliver f phase a box
+    pub current : isIn phase (ownerAt f a .state) a ≡ true
+    pub no : allYes (requestsHeard phase (rowAt f a) box) (f .n) ≡ false
+    pub quorum : phase ≡ Write → atQuorum (requestsHeard phase (rowAt f a) box) (f .n) ≡ true
+    pub row : rowAt g a ≡ heardRow f phase a box
     pub owner : stationAt g (rowAt f a .station) ≡ withState (ownerAt f a) state.Idle
 
   pub record StoppedBy (b : ℕ) : Type 0 where
@@ -194,7 +201,7 @@ module _ (f : Floor) (c : Command) (j : ℕ) where
         → StationMove (WriteIssued v) (withState (stationAt f j) (state.Writing a))
     station-decides : {a b v : ℕ} → c ≡ Deliver Write a b → a < f .used → rowAt f a .station ≡ j → isWriting (stationAt f j .state) a ≡ true
         → rowAt f a .written ≡ v → StationMove (Decided v) (record { state = state.Decided a; last = stationAt f j .last; decided = v })
-    station-aborts : {a b : ℕ} → c ≡ Deliver Write a b → a < f .used → rowAt f a .station ≡ j → isWriting (stationAt f j .state) a ≡ true
+    station-aborts : {p : Phase} {a b : ℕ} → c ≡ Deliver p a b → a < f .used → rowAt f a .station ≡ j → isIn p (stationAt f j .state) a ≡ true
         → StationMove (Aborted a) (withState (stationAt f j) state.Idle)
     station-leaves : c ≡ Leave j → isGone (stationAt f j .state) ≡ false → StationMove (Gone j) (withState (stationAt f j) state.Gone)
 
@@ -212,7 +219,7 @@ module _ (f : Floor) (c : Command) (j : ℕ) where
     row-served : {p : Phase} {b : ℕ} → c ≡ Serve p j b → CanServe f p j b → RowMove (Served j) (rowServed p (rowAt f j) (boxAt f b .register) b)
     row-heard : {p : Phase} {b : ℕ} {o : Outcome} → c ≡ Deliver p j b → CanDeliver f p j b → RowMove o (heardRow f p j b)
     row-issues : {b v : ℕ} → c ≡ Deliver Read j b → CanDeliver f Read j b → isReading (ownerAt f j .state) j ≡ true
-        → atQuorum (heardRow f Read j b .read) (f .n) ≡ true → v ≡ revisionOf (heardRow f Read j b) (f .n)
+        → atQuorum (heardRow f Read j b .read) (f .n) ≡ true → allYes (heardRow f Read j b .read) (f .n) ≡ true → v ≡ revisionOf (heardRow f Read j b) (f .n)
         → RowMove (WriteIssued v) (rows.issued (heardRow f Read j b) v (f .n))
 
 -- What a register x may have become: where a rank or a value is new, it is that of a row in use.

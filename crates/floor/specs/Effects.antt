@@ -1,10 +1,12 @@
--- Document 01, "Steps": the floor that an accepted step leads to, and what came of it.
+-- Document 01, "Steps", and wish 2 of document 02: the floor that an accepted step leads to, and what came of it.
 use Prim.Native.Nat.{ℕ, _+_}
 use mathlib.Core.Bool.{true}
 use Rattle.base.specs.Choice.{if_then_else_}
 use Rattle.register.specs.Register.{withRegister}
-use Rattle.requests.specs.Requests.{ofPhase, atQuorum, allYes}
+use Rattle.requests.specs.Requests.{ofPhase, verdictOf}
 use Rattle.requests.specs.declared.Phase.{Phase}
+use Rattle.requests.specs.declared.Verdict.{Verdict}
+use Rattle.requests.specs.declared.Verdict.the-variants.{Open, Yes, No}
 use Rattle.commands.specs.declared.Command.{Command}
 use Rattle.commands.specs.declared.Command.the-variants.{Begin, Serve, Deliver, Stop, Leave, Malformed}
 use Rattle.commands.specs.declared.Outcome.{Outcome}
@@ -61,21 +63,27 @@ decider f a w = record { state = state.Decided a; last = stationAt f (w .station
 abbrev pub afterDecision : (f : Floor) (a : ℕ) (w : Row) → Floor
 afterDecision f a w = withStation (withRow f a w) (w .station) (decider f a w)
 
+abbrev pub writeEndedOn : (f : Floor) (a : ℕ) (w : Row) → Stepped
+writeEndedOn f a w = stepped (afterDecision f a w) (said.Decided (w .written))
+
 abbrev pub afterAbort : (f : Floor) (a : ℕ) (w : Row) → Floor
 afterAbort f a w = withStation (withRow f a w) (w .station) (withState (stationAt f (w .station)) state.Idle)
 
-unfoldable pub writeEndedOn : (f : Floor) (a : ℕ) (w : Row) → Stepped
-writeEndedOn f a w =
-    if allYes (w .write) (f .n) then stepped (afterDecision f a w) (said.Decided (w .written))
-    else stepped (afterAbort f a w) (said.Aborted a)
+-- what the answers of that phase that are received then, "this one included", come to
+abbrev pub verdictOn : (f : Floor) (phase : Phase) (a b : ℕ) → Verdict
+verdictOn f phase a b = verdictOf phase (requestsHeard phase (rowAt f a) b) (f .n)
 
--- a delivery: the station is in that phase of the attempt, and the answer is the q-th, or it is received only
+-- What comes of them: nothing yet; the write is issued, or the station decides; or it aborts, since one of them says "not taken"
+-- or, wish 2, "outranked".
+abbrev pub heardOn : (f : Floor) (phase : Phase) (a b : ℕ) (v : Verdict) → Stepped
+heardOn f phase a b Open = receivedOn f phase a b
+heardOn f phase a b Yes = ofPhase phase (readEndedOn f a (heardRow f phase a b)) (writeEndedOn f a (heardRow f phase a b))
+heardOn f phase a b No = stepped (afterAbort f a (heardRow f phase a b)) (said.Aborted a)
+
+-- a delivery, to a station that is in that phase of the attempt, or to any other
 unfoldable pub deliveredOn : (f : Floor) (phase : Phase) (a b : ℕ) → Stepped
 deliveredOn f phase a b =
-    if isIn phase (ownerAt f a .state) a then
-    (if atQuorum (requestsHeard phase (rowAt f a) b) (f .n) then
-    ofPhase phase (readEndedOn f a (heardRow f phase a b)) (writeEndedOn f a (heardRow f phase a b))
-    else receivedOn f phase a b)
+    if isIn phase (ownerAt f a .state) a then heardOn f phase a b (verdictOn f phase a b)
     else receivedOn f phase a b
 
 -- "6 Stop box b, for good."
@@ -97,16 +105,14 @@ effectOn f Malformed = stepped f (said.Refused 7)
 
 -- Document 01's value of what an accepted step says: "begun, served, received or aborted with the attempt; write issued or decided with
 -- the revision; stopped with the box; gone with the station"
-abbrev pub writeEndedValue : (f : Floor) (a : ℕ) (w : Row) → ℕ
-writeEndedValue f a w = if allYes (w .write) (f .n) then w .written else a
+abbrev pub heardValue : (f : Floor) (phase : Phase) (a b : ℕ) (v : Verdict) → ℕ
+heardValue f phase a b Open = a
+heardValue f phase a b Yes = ofPhase phase (revisionOf (heardRow f phase a b) (f .n)) (heardRow f phase a b .written)
+heardValue f phase a b No = a
 
 unfoldable pub deliveredValue : (f : Floor) (phase : Phase) (a b : ℕ) → ℕ
 deliveredValue f phase a b =
-    if isIn phase (ownerAt f a .state) a then
-    (if atQuorum (requestsHeard phase (rowAt f a) b) (f .n) then
-    ofPhase phase (revisionOf (heardRow f phase a b) (f .n)) (writeEndedValue f a (heardRow f phase a b))
-    else a)
-    else a
+    if isIn phase (ownerAt f a .state) a then heardValue f phase a b (verdictOn f phase a b) else a
 
 abbrev pub valueOn : (f : Floor) (c : Command) → ℕ
 valueOn f (Begin s round v) = f .used

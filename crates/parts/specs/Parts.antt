@@ -7,8 +7,10 @@ use lib.Dec.{eqb, leb, ltb}
 use Rattle.base.specs.Choice.{if_then_else_}
 use Rattle.register.specs.Register.{withRegister}
 use Rattle.register.specs.declared.StorageBox.{StorageBox}
-use Rattle.requests.specs.Requests.{ofPhase, standingOf, isWaiting, isOnTheWay, atQuorum, allYes}
+use Rattle.requests.specs.Requests.{ofPhase, standingOf, isWaiting, isOnTheWay, verdictOf}
 use Rattle.requests.specs.declared.Phase.{Phase}
+use Rattle.requests.specs.declared.Verdict.{Verdict}
+use Rattle.requests.specs.declared.Verdict.the-variants.{Open, Yes, No}
 use Rattle.commands.specs.declared.Command.{Command}
 use Rattle.commands.specs.declared.Command.the-variants.{Begin, Serve, Deliver, Stop, Leave, Malformed}
 use Rattle.commands.specs.declared.Outcome.the-variants as said
@@ -149,15 +151,15 @@ decidedBy x a w =
       outcome = said.Decided (w .written);
     }
 
-unfoldable pub writeEnded : (x : Parts) (a : ℕ) (w : Row) → Changed
-writeEnded x a w = if allYes (w .write) (x .n) then decidedBy x a w else abortedBy x a w
+-- what came of the answers received
+abbrev pub heardBy : (x : Parts) (p : Phase) (a : ℕ) (w : Row) (v : Verdict) → Changed
+heardBy x p a w Open = receivedOnly x a w
+heardBy x p a w Yes = ofPhase p (readEnded x a w) (decidedBy x a w)
+heardBy x p a w No = abortedBy x a w
 
 unfoldable pub delivered : (x : Parts) (p : Phase) (a b : ℕ) → Changed
 delivered x p a b =
-    if isIn p (x .station .state) a then
-    (if atQuorum (requestsHeard p (x .row) b) (x .n) then
-    ofPhase p (readEnded x a (rowHeard p (x .row) b)) (writeEnded x a (rowHeard p (x .row) b))
-    else receivedOnly x a (rowHeard p (x .row) b))
+    if isIn p (x .station .state) a then heardBy x p a (rowHeard p (x .row) b) (verdictOf p (requestsHeard p (x .row) b) (x .n))
     else receivedOnly x a (rowHeard p (x .row) b)
 
 abbrev pub stoppedBox : (x : Parts) (b : ℕ) → Changed

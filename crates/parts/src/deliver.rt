@@ -1,7 +1,7 @@
 // A delivery on the parts that it looks at: its refusal, and its effect where it is accepted.
 ghost use mathlib.Core.Path.{_≡_};
 ghost use Prim.Native.Nat.{_<_};
-ghost use Rattle.parts.specs.Parts.{deliverIn, readEnded, writeEnded, delivered};
+ghost use Rattle.parts.specs.Parts.{deliverIn, readEnded, decidedBy, delivered};
 use crate::Changed;
 use crate::Parts;
 use attempts::Row;
@@ -9,6 +9,7 @@ use attempts::State;
 use attempts::Station;
 use commands::Outcome;
 use requests::Phase;
+use requests::Verdict;
 
 pub(crate) fn deliver_refusal(x: Parts, p: Phase, a: u8, b: u8) -> u8
     ensures { λ r. ⌜ r ≡ deliverIn x p a b ⌝ }
@@ -47,22 +48,13 @@ fn read_ended(x: Parts, a: u8, w: Row) -> Changed
     }
 }
 
-// The q-th write answer: the station decides or aborts.
-fn write_ended(x: Parts, a: u8, w: Row) -> Changed
-    ensures { λ r. ⌜ r ≡ writeEnded x a w ⌝ }
+// The q-th write answer, all taken: the station decides.
+fn decided(x: Parts, a: u8, w: Row) -> Changed
+    ensures { λ r. ⌜ r ≡ decidedBy x a w ⌝ }
 {
     let st = x.station;
-    let h = w.write;
     let mut y = x;
     y.row = w;
-    if !requests::all_yes(h, x.n) {
-        let station = attempts::with_state(st, State::Idle);
-        y.station = station;
-        return Changed {
-            parts: y,
-            outcome: Outcome::Aborted(a),
-        };
-    }
     let station = Station {
         state: State::Decided(a),
         last: st.last,
@@ -93,14 +85,23 @@ pub(crate) fn deliver(x: Parts, p: Phase, a: u8, b: u8) -> Changed
             outcome: Outcome::Received(a),
         };
     }
-    if !requests::at_quorum(h, x.n) {
-        return Changed {
+    let verdict = requests::verdict_of(h, p, x.n);
+    match verdict {
+        Verdict::Open => Changed {
             parts: y,
             outcome: Outcome::Received(a),
-        };
-    }
-    match p {
-        Phase::Read => read_ended(x, a, w),
-        Phase::Write => write_ended(x, a, w),
+        },
+        Verdict::No => {
+            let station = attempts::with_state(st, State::Idle);
+            y.station = station;
+            Changed {
+                parts: y,
+                outcome: Outcome::Aborted(a),
+            }
+        }
+        Verdict::Yes => match p {
+            Phase::Read => read_ended(x, a, w),
+            Phase::Write => decided(x, a, w),
+        },
     }
 }

@@ -1,6 +1,6 @@
 -- Two runs of three boxes, so that the claims are not about nothing. Example I of document 01: a value is chosen, a write is taken
--- below it and refused elsewhere, a read answers a rank above its own, and a third attempt writes the chosen value. And a replicated
--- object, of which two different states are chosen.
+-- below it and refused elsewhere, a read answers a rank above its own, a third attempt writes the chosen value, and a fourth is told that
+-- it is outranked. And a replicated object, of which two different states are chosen.
 use mathlib.Core.Path.{_≡_, refl, sym, subst, _∙_}
 use mathlib.Core.Logic.{_≢_, inl, inr}
 use mathlib.Core.List.{List, [], _∷_, List·Memᴰ, List·Memᴰ·head, List·Memᴰ·tail, List·Memᴰ·cases-cons, List·Memᴰ·not-nil, IsPrefix}
@@ -14,7 +14,7 @@ use Rattle.base.proofs.Choices.{on-true, on-false}
 use Rattle.base.specs.Mask.{setBit}
 use Rattle.base.specs.Quorum.{Majority}
 use Rattle.protocol.specs.View.{Chosen}
-use Rattle.protocol.specs.Trace.{Box, readBox, writeBox, Event, read, issued, took, refused, note, Edit, there, other, view, Run, new, next, serve-read, issue, take, refuse, other-event}
+use Rattle.protocol.specs.Trace.{Box, readBox, writeBox, Event, read, nack, issued, took, refused, note, Edit, there, other, view, Run, Outranked, new, next, serve-read, serve-nack, issue, take, refuse, other-event}
 use Rattle.protocol.specs.Claims.{Claims}
 use Rattle.protocol.specs.Instances.{Submitted, Replicated}
 use Rattle.base.proofs.MaskLaws.{bit-zero, bit-other, count-zero, count-more, added, mask-majority}
@@ -62,6 +62,7 @@ module _ {A N : Type 0} where
   abbrev Fresh : ℕ → List (Event A N) → Type 0
   Fresh r [] = Unit {0}
   Fresh r (read s b w v ∷ l) = Fresh r l
+  Fresh r (nack s b ∷ l) = Fresh r l
   Fresh r (issued s v ∷ l) = (r ≢ s) × Fresh r l
   Fresh r (took s b ∷ l) = Fresh r l
   Fresh r (refused s b ∷ l) = Fresh r l
@@ -70,6 +71,7 @@ module _ {A N : Type 0} where
   unissued : (r : ℕ) (l : List (Event A N)) → Fresh r l → (u : A) → ¬ List·Memᴰ (issued r u) l
   unissued r [] h u m = List·Memᴰ·not-nil m
   unissued r (read s b w v ∷ l) h u m = elim (List·Memᴰ·cases-cons m) [ inl q ↦ differ (cc) | inr o ↦ unissued r l h u o ]
+  unissued r (nack s b ∷ l) h u m = elim (List·Memᴰ·cases-cons m) [ inl q ↦ differ (cc) | inr o ↦ unissued r l h u o ]
   unissued r (issued s v ∷ l) h u m = elim (List·Memᴰ·cases-cons m) [ inl q ↦ h .0 (cc) | inr o ↦ unissued r l (h .1) u o ]
   unissued r (took s b ∷ l) h u m = elim (List·Memᴰ·cases-cons m) [ inl q ↦ differ (cc) | inr o ↦ unissued r l h u o ]
   unissued r (refused s b ∷ l) h u m = elim (List·Memᴰ·cases-cons m) [ inl q ↦ differ (cc) | inr o ↦ unissued r l h u o ]
@@ -99,6 +101,9 @@ module _ {A N : Type 0} where
 
     takes : (r b : ℕ) (v : A) → x b .readRank ≤ r → x b .writeRank < r → List·Memᴰ (issued r v) l → Run 3 ⊑ Offered (at b (writeBox r v) x) (took r b ∷ l)
     takes r b v h p m = next k (take m h p (edited b (writeBox r v) x))
+
+    tells : (r b : ℕ) → r < x b .readRank → Run 3 ⊑ Offered x (nack r b ∷ l)
+    tells r b h = next k (serve-nack (λ j. refl) (inl h))
 
     refuses : (r b : ℕ) → r < x b .readRank → Run 3 ⊑ Offered x (refused r b ∷ l)
     refuses r b h = next k (refuse (λ j. refl) (inl h))
@@ -166,6 +171,17 @@ chosen = record { issued = place 10 refl; taken = two-of-three 1 2 (omega arith)
 
 pub claims : Claims 3 _≡_ Noted boxes3 history3
 claims = theory ℕ ℕ 3 _≡_ Noted equality (λ e l v m. List·Memᴰ·tail m) boxes3 history3 run3
+
+-- a fourth attempt, of rank 18, is told by box 1 that it is outranked
+abbrev history4 : List (Event ℕ ℕ)
+history4 = nack 18 1 ∷ history3
+
+run4 : Run 3 _≡_ Noted boxes3 history4
+unfolding if_then_else_
+run4 = tells run3 18 1 (omega arith)
+
+pub outranked : Outranked history4 18 1
+outranked = theory ℕ ℕ 3 _≡_ Noted equality (λ e l v m. List·Memᴰ·tail m) boxes3 history4 run4 .nack-outranked 18 1 (place 0 refl)
 
 -- A replicated object: its states are lists of operations.
 abbrev Log : Type 0

@@ -1,4 +1,4 @@
--- Each step of the machine is a step of the view, so every run has the invariant; and a write refused was outranked.
+-- Each step of the machine is a step of the view, so every run has the invariant; and a write refused, or a read told so, was outranked.
 use mathlib.Core.Path.{_≡_, refl, sym, ap, subst, _∙_}
 use mathlib.Core.Logic.{inl, inr}
 use mathlib.Core.List.{List, _∷_, List·Memᴰ, List·Memᴰ·head, List·Memᴰ·tail, List·Memᴰ·cases-cons, List·Memᴰ·not-nil}
@@ -8,7 +8,7 @@ use native.Mathlib.Nat.{eq-or-lt-of-le}
 use native.Mathlib.Omega.{arith}
 use Rattle.protocol.specs.View.{Stored, kept, stored, Took, Answered, Wrote, MayIssue, Transition}
 use Rattle.protocol.specs.Invariant.{Inv}
-use Rattle.protocol.specs.Trace.{Box, readBox, writeBox, Event, read, issued, took, refused, there, other, view, Served, by-read, by-write, Outranked, Step, serve-read, issue, take, refuse, other-event, Run, new, next}
+use Rattle.protocol.specs.Trace.{Box, readBox, writeBox, Event, read, nack, issued, took, refused, there, other, view, Served, by-read, by-write, Outranked, Step, serve-read, serve-nack, issue, take, refuse, other-event, Run, new, next}
 use Rattle.protocol.specs.Claims.{Persistent}
 use Rattle.protocol.proofs.Invariance.{start-inv, transition-inv}
 
@@ -46,6 +46,7 @@ module _ {A N : Type 0} where
     module _ {x y : ℕ → Box A} {l : List (Event A N)} where
       change : {e : Event A N} → Step n _⊑_ Offered x l y e → (j : ℕ) → Change x l y e j
       change (serve-read {r} {b} {w} {v} f g h) j = elim (f j) [ there p q ↦ raised (ap (λ (i : ℕ). read r i w v) p) q | other p q ↦ same q ]
+      change (serve-nack q _) j = same (q j)
       change (issue q _ _) j = same (q j)
       change (take {r} {b} m h k f) j = elim (f j) [
         | there p q ↦ written (ap (λ (i : ℕ). took r i) p) m (omega (arith, ap (λ (i : ℕ). x i .writeRank) p)) q
@@ -169,4 +170,18 @@ module _ {A N : Type 0} where
     outranked (next {e = e} k s) r b p m f = outranked-more e (elim (List·Memᴰ·cases-cons m) [
       | inl q ↦ refused-outranked (run-known k) p (step-as q s) (λ t. f (List·Memᴰ·tail t))
       | inr o ↦ outranked k r b p o (λ t. f (List·Memᴰ·tail t))
+    ])
+
+    -- a read that a box tells so was outranked
+    pub told-outranked : {x y : ℕ → Box A} {l : List (Event A N)} {r b : ℕ} → Known x l → Step n _⊑_ Offered x l y (nack r b) → Outranked l r b
+    told-outranked {x} {b = b} k (serve-nack _ c) = elim c [
+      | inl h ↦ record { rank = x b .readRank; higher = omega arith; served = k .readers b (omega arith) }
+      | inr h ↦ record { rank = x b .writeRank; higher = omega arith; served = by-write (k .writers b (omega arith)) }
+    ]
+
+    pub nack-outranked : {x : ℕ → Box A} {l : List (Event A N)} → Run n _⊑_ Offered x l → (r b : ℕ) → List·Memᴰ (nack r b) l → Outranked l r b
+    nack-outranked (new _ _) r b m = absurd (List·Memᴰ·not-nil m)
+    nack-outranked (next {e = e} k s) r b m = outranked-more e (elim (List·Memᴰ·cases-cons m) [
+      | inl q ↦ told-outranked (run-known k) (step-as q s)
+      | inr o ↦ nack-outranked k r b o
     ])

@@ -4,7 +4,7 @@ use mathlib.Core.List.{List, _∷_, List·Memᴰ}
 use Prim.Native.Nat.{ℕ, _≤_, _<_}
 use Rattle.protocol.specs.View.{View, Chosen, Returns, Transition, Start}
 use Rattle.protocol.specs.Invariant.{Inv}
-use Rattle.protocol.specs.Trace.{Box, Event, read, issued, took, refused, view, Outranked, Step, Run}
+use Rattle.protocol.specs.Trace.{Box, Event, read, nack, issued, took, refused, view, Outranked, Step, Run}
 
 module _ {A : Type 0} (_⊑_ : A → A → Type 0) where
   infix 20 _⊑_
@@ -49,6 +49,9 @@ module _ {A N : Type 0} (n : ℕ) (_⊑_ : A → A → Type 0) (Offered : List (
     -- refused
     pub outranked : (r b : ℕ) → 0 < r → List·Memᴰ (refused r b) l → ¬ List·Memᴰ (took r b) l → Outranked l r b
     pub outranked-before : (y : ℕ → Box A) (r b : ℕ) → 0 < r → Step n _⊑_ Offered x l y (refused r b) → ¬ List·Memᴰ (took r b) l → Outranked l r b
+    -- the same of a read that a box told so
+    pub nack-outranked : (r b : ℕ) → List·Memᴰ (nack r b) l → Outranked l r b
+    pub nack-before : (y : ℕ → Box A) (r b : ℕ) → Step n _⊑_ Offered x l y (nack r b) → Outranked l r b
     -- Lemma 5, Safety over a majority: what a read returns above the start rank was issued, and it sees each lower-ranked write that
     -- a majority takes, earlier or later
     pub returned-issued : (r w : ℕ) (v : A) → Returns n (view Offered x l) r w v → 0 < w → List·Memᴰ (issued w v) l

@@ -1,10 +1,13 @@
--- Document 01, "The box routine (Figure 3)": one ranked register, its read and its write; and the box that keeps it.
+-- Document 01, "The box routine (Figure 3)", and wish 2 of document 02: one ranked register, its read and its write; and the box that
+-- keeps it.
 use Prim.Native.Nat.{ℕ, max}
 use mathlib.Core.Bool.{Bool, true, false}
 use lib.Dec.{eqb, leb, ltb}
 use Rattle.base.specs.Choice.{if_then_else_}
 use Rattle.register.specs.declared.Register.{Register}
 use Rattle.register.specs.declared.StorageBox.{StorageBox}
+use Rattle.register.specs.declared.ReadAnswer.{ReadAnswer}
+use Rattle.register.specs.declared.ReadAnswer.the-variants.{Held, Outranked}
 use Rattle.register.specs.declared.ReadDone.{ReadDone}
 use Rattle.register.specs.declared.WriteDone.{WriteDone}
 
@@ -17,14 +20,34 @@ box0 = record { register = record { read = 0; write = 0; value = 0 }; stopped = 
 abbrev pub withRegister : (x : StorageBox) (register : Register) → StorageBox
 withRegister x register = record { register = register; stopped = x .stopped }
 
--- "Read with rank r: the read rank becomes the larger of itself and r. The answer is the write rank and the value." (rmw-read)
+-- Wish 2: "A box with a read or write rank above r". Equal ranks are not above.
+unfoldable pub outranks : (x : Register) (rank : ℕ) → Bool
+outranks x rank = if ltb rank (x .read) then true else ltb rank (x .write)
+
+-- "Read with rank r: the read rank becomes the larger of itself and r. The answer is the write rank and the value." (rmw-read) Wish 2: "A
+-- box with a read or write rank above r answers a read "outranked" and changes nothing".
 unfoldable pub rmwRead : (x : Register) (rank : ℕ) → ReadDone
 rmwRead x rank =
-    record {
-      register = record { read = max (x .read) rank; write = x .write; value = x .value };
-      rank = x .write;
-      value = x .value;
-    }
+    if outranks x rank then record { register = x; answer = Outranked }
+    else record { register = record { read = max (x .read) rank; write = x .write; value = x .value }; answer = Held (x .write) (x .value) }
+
+abbrev pub isHeld : (answer : ReadAnswer) → Bool
+isHeld (Held w v) = true
+isHeld Outranked = false
+
+-- A read's answer in numbers: what it "returns" from C, and the write rank and the value of the reply. Wish 2: outranked "it returns 100 and
+-- zeroes the reply".
+abbrev pub numberIn : (answer : ReadAnswer) → ℕ
+numberIn (Held w v) = 0
+numberIn Outranked = 100
+
+abbrev pub rankIn : (answer : ReadAnswer) → ℕ
+rankIn (Held w v) = w
+rankIn Outranked = 0
+
+abbrev pub valueIn : (answer : ReadAnswer) → ℕ
+valueIn (Held w v) = v
+valueIn Outranked = 0
 
 -- "if read rank ≤ r and write rank < r"
 unfoldable pub takes : (x : Register) (rank : ℕ) → Bool

@@ -1,6 +1,7 @@
-// The ranked register of one box, by value: Figure 3 of the paper, as document 01's section "The box routine" reads it.
+// The ranked register of one box, by value: Figure 3 of the paper, as document 01's section "The box routine" and wish 2 of document 02
+// read it.
 ghost use mathlib.Core.Path.{_≡_};
-ghost use Rattle.register.specs.Register.{takes, rmwRead, rmwWrite};
+ghost use Rattle.register.specs.Register.{outranks, isHeld, rankIn, valueIn, takes, rmwRead, rmwWrite};
 
 // What a box keeps: Figure 3's x, with rR (read), wR (write) and val (value). All are 0 at first.
 pub struct Register {
@@ -15,11 +16,16 @@ pub struct StorageBox {
     pub stopped: bool,
 }
 
-// A read: the register after it, and its answer, the write rank and the value.
+// What a read answers: the write rank and the value that are held, or that a higher rank was served (the nack of a phase 1).
+pub enum ReadAnswer {
+    Held(u32, u32),
+    Outranked,
+}
+
+// A read: the register after it, and its answer.
 pub struct ReadDone {
     pub register: Register,
-    pub rank: u32,
-    pub value: u32,
+    pub answer: ReadAnswer,
 }
 
 // A write: the register after it, and its answer, whether it was taken.
@@ -28,18 +34,64 @@ pub struct WriteDone {
     pub taken: bool,
 }
 
-// Figure 3's rmw-read: the read rank becomes the larger of itself and the rank.
+// Whether the read rank or the write rank is above this one.
+fn outranked(x: Register, rank: u32) -> bool
+    ensures { λ y. ⌜ y ≡ outranks x rank ⌝ }
+{
+    if x.read > rank {
+        return true;
+    }
+    x.write > rank
+}
+
+// Figure 3's rmw-read: the read rank becomes the rank. A read that is outranked changes nothing.
 pub fn rmw_read(x: Register, rank: u32) -> ReadDone
     ensures { λ y. ⌜ y ≡ rmwRead x rank ⌝ }
 {
-    let mut register = x;
-    if x.read < rank {
-        register.read = rank;
+    if !outranked(x, rank) {
+        let register = Register {
+            read: rank,
+            write: x.write,
+            value: x.value,
+        };
+        return ReadDone {
+            register,
+            answer: ReadAnswer::Held(x.write, x.value),
+        };
     }
+    let register = x;
     ReadDone {
         register,
-        rank: x.write,
-        value: x.value,
+        answer: ReadAnswer::Outranked,
+    }
+}
+
+// A read's answer is what is held, and not that it is outranked.
+pub fn held(a: ReadAnswer) -> bool
+    ensures { λ y. ⌜ y ≡ isHeld a ⌝ }
+{
+    match a {
+        ReadAnswer::Held(_, _) => true,
+        ReadAnswer::Outranked => false,
+    }
+}
+
+// The write rank and the value in a read's answer, 0 where it is outranked.
+pub fn rank_in(a: ReadAnswer) -> u32
+    ensures { λ y. ⌜ y ≡ rankIn a ⌝ }
+{
+    match a {
+        ReadAnswer::Held(w, _) => w,
+        ReadAnswer::Outranked => 0,
+    }
+}
+
+pub fn value_in(a: ReadAnswer) -> u32
+    ensures { λ y. ⌜ y ≡ valueIn a ⌝ }
+{
+    match a {
+        ReadAnswer::Held(_, v) => v,
+        ReadAnswer::Outranked => 0,
     }
 }
 

@@ -1,7 +1,7 @@
 -- The claims on one phase, proved.
 use Rattle.requests.specs.Claims.{RequestClaims}
 use Rattle.requests.proofs.StandingTests.{standing-received, standing-clear}
-use Rattle.requests.proofs.RequestLaws.{issued-waits, served-comes, served-other, received-same, received-other, quorum-majority, yes-means, yes-not}
+use Rattle.requests.proofs.RequestLaws.{issued-waits, served-comes, served-other, received-same, received-other, quorum-majority, yes-means, yes-not, verdict-yes, verdict-no, verdict-open, read-no}
 
 pub request-claims : RequestClaims
 request-claims = record {
@@ -15,4 +15,8 @@ request-claims = record {
   majority = λ q n P. quorum-majority q n;
   all-yes = yes-means;
   not-all = yes-not;
+  yes = verdict-yes;
+  no = verdict-no;
+  still = verdict-open;
+  early = read-no;
 }

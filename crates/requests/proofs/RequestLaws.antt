@@ -11,14 +11,18 @@ use lib.Seq.{set-out, getD-set-same, getD-set-other}
 use borrow.Author.Tests.{ltb-true, ltb-false, eqb-true, eq-eqb, ne-eqb}
 use Rattle.base.specs.Choice.{if_then_else_}
 use Rattle.base.specs.Numbers.{quorum}
-use Rattle.base.proofs.Choices.{by-test, both-true}
+use Rattle.base.proofs.Choices.{on-true, on-false, by-test, both-true}
 use Rattle.base.specs.Mask.{countBelow}
 use Rattle.base.specs.Quorum.{Majority}
 use Rattle.base.proofs.MaskLaws.{bit-zero, bit-same, bit-other, mask-majority}
-use Rattle.requests.specs.Requests.{slot0, slotAt, heardFrom, standing, standingOf, isWaiting, isOnTheWay, slotWaiting, waitingBelow, issuedTo, servedAt, receivedFrom, atQuorum, stillYes, allYes}
+use Rattle.requests.specs.Requests.{slot0, slotAt, heardFrom, standing, standingOf, isWaiting, isOnTheWay, slotWaiting, waitingBelow, issuedTo, servedAt, receivedFrom, atQuorum, stillYes, allYes, readVerdict, writeVerdict, verdictOf}
+use Rattle.requests.specs.declared.Phase.{Phase}
+use Rattle.requests.specs.declared.Phase.the-variants.{Read, Write}
 use Rattle.requests.specs.declared.Stage.the-variants.{Answered}
 use Rattle.requests.specs.declared.Slot.{Slot}
 use Rattle.requests.specs.declared.Requests.{Requests}
+use Rattle.requests.specs.declared.Verdict.{Verdict}
+use Rattle.requests.specs.declared.Verdict.the-variants.{Open, Yes, No}
 use Rattle.base.proofs.Cases.{clash, by-cases, up-to}
 use Rattle.requests.proofs.Standings.{waits-holds, arrives-holds}
 use Rattle.base.proofs.Stores.{set-in, set-all, getD-same}
@@ -134,3 +138,43 @@ module _ (h : Requests) where
       by-value : (t : Bool) → allYes h k ≡ t → t ≡ true
       by-value true e = refl
       by-value false e = let r = yes-not k e in clash (p (r .0) (r .1) (r .2)) (r .3)
+
+-- What the answers received come to, as facts: the q-th was not received, and of reads none says no; it was, and each says yes; or one says
+-- no, of writes with the q-th.
+pub data Came (p : Phase) (h : Requests) (n : ℕ) : Verdict → Type 0 where
+  still : atQuorum h n ≡ false → (p ≡ Read → allYes h n ≡ true) → Came p h n Open
+  agreed : atQuorum h n ≡ true → allYes h n ≡ true → Came p h n Yes
+  denied : allYes h n ≡ false → (p ≡ Write → atQuorum h n ≡ true) → Came p h n No
+
+module _ (h : Requests) (n : ℕ) where
+  pub verdict-came : (p : Phase) → Came p h n (verdictOf p h n)
+  unfolding readVerdict writeVerdict
+  verdict-came Read =
+      by-test (Came Read h n) (allYes h n) _ _
+      (λ y. by-test (Came Read h n) (atQuorum h n) _ _ (λ q. agreed q y) (λ q. still q (λ _. y)))
+      (λ y. denied y (λ e. absurd (let z : _≡_ {A = ℕ} 0 1 = cc in omega arith)))
+  verdict-came Write =
+      by-test (Came Write h n) (atQuorum h n) _ _
+      (λ q. by-test (Came Write h n) (allYes h n) _ _ (λ y. agreed q y) (λ y. denied y (λ _. q)))
+      (λ q. still q (λ e. absurd (let z : _≡_ {A = ℕ} 0 1 = cc in omega arith)))
+
+  -- the q-th answer ends a phase
+  pub verdict-yes : (p : Phase) → atQuorum h n ≡ true → allYes h n ≡ true → verdictOf p h n ≡ Yes
+  unfolding readVerdict writeVerdict
+  verdict-yes Read q y = sym (on-true _ y (on-true _ q refl))
+  verdict-yes Write q y = sym (on-true _ q (on-true _ y refl))
+
+  pub verdict-no : (p : Phase) → atQuorum h n ≡ true → allYes h n ≡ false → verdictOf p h n ≡ No
+  unfolding readVerdict writeVerdict
+  verdict-no Read q y = sym (on-false _ y refl)
+  verdict-no Write q y = sym (on-true _ q (on-false _ y refl))
+
+  -- before it a no ends reads alone
+  pub verdict-open : (p : Phase) → atQuorum h n ≡ false → (p ≡ Read → allYes h n ≡ true) → verdictOf p h n ≡ Open
+  unfolding readVerdict writeVerdict
+  verdict-open Read q y = sym (on-true _ (y refl) (on-false _ q refl))
+  verdict-open Write q y = sym (on-false _ q refl)
+
+  pub read-no : allYes h n ≡ false → verdictOf Read h n ≡ No
+  unfolding readVerdict
+  read-no y = sym (on-false _ y refl)

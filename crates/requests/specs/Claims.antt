@@ -4,10 +4,13 @@ use mathlib.Core.Path.{_≡_}
 use mathlib.Core.Bool.{Bool, true, false}
 use lib.ListN.{length}
 use Rattle.base.specs.Quorum.{Majority}
-use Rattle.requests.specs.Requests.{slotAt, heardFrom, received, notReceived, standing, standingOf, isWaiting, isOnTheWay, issuedTo, servedAt, receivedFrom, atQuorum, allYes}
+use Rattle.requests.specs.Requests.{slotAt, heardFrom, received, notReceived, standing, standingOf, isWaiting, isOnTheWay, issuedTo, servedAt, receivedFrom, atQuorum, allYes, verdictOf}
 use Rattle.base.specs.Mask.{bit}
+use Rattle.requests.specs.declared.Phase.{Phase}
+use Rattle.requests.specs.declared.Phase.the-variants.{Read}
 use Rattle.requests.specs.declared.Stage.{Stage}
 use Rattle.requests.specs.declared.Requests.{Requests}
+use Rattle.requests.specs.declared.Verdict.the-variants.{Open, Yes, No}
 
 pub record RequestClaims : Type 1 where
   -- a bit of the mask alone says that an answer was received
@@ -22,6 +25,11 @@ pub record RequestClaims : Type 1 where
   pub received-other : (q : Requests) (b j : ℕ) → ¬ (j ≡ b) → heardFrom (receivedFrom q b) j ≡ heardFrom q j
   -- at the q-th answer the boxes that answered are a majority
   pub majority : (q : Requests) (n : ℕ) (P : ℕ → Type 0) → atQuorum q n ≡ true → ((b : ℕ) → b < n → heardFrom q b ≡ true → P b) → Majority n P
-  -- "all q say taken", or one of them does not
+  -- "all q say taken", none is outranked; or one of them says no
   pub all-yes : (q : Requests) (k : ℕ) → allYes q k ≡ true → (b : ℕ) → b < k → heardFrom q b ≡ true → slotAt q b .ok ≡ true
   pub not-all : (q : Requests) (k : ℕ) → allYes q k ≡ false → (b : ℕ) × (b < k) × (heardFrom q b ≡ true) × (slotAt q b .ok ≡ false)
+  -- the q-th answer ends a phase, with a yes where all say yes and else with a no; before it a no ends reads, and nothing ends writes
+  pub yes : (q : Requests) (n : ℕ) (p : Phase) → atQuorum q n ≡ true → allYes q n ≡ true → verdictOf p q n ≡ Yes
+  pub no : (q : Requests) (n : ℕ) (p : Phase) → atQuorum q n ≡ true → allYes q n ≡ false → verdictOf p q n ≡ No
+  pub still : (q : Requests) (n : ℕ) (p : Phase) → atQuorum q n ≡ false → (p ≡ Read → allYes q n ≡ true) → verdictOf p q n ≡ Open
+  pub early : (q : Requests) (n : ℕ) → allYes q n ≡ false → verdictOf Read q n ≡ No

@@ -13,6 +13,8 @@ use Rattle.requests.specs.declared.Stage.{Stage}
 use Rattle.requests.specs.declared.Stage.the-variants.{Unissued, Waiting, Answered}
 use Rattle.requests.specs.declared.Slot.{Slot}
 use Rattle.requests.specs.declared.Requests.{Requests}
+use Rattle.requests.specs.declared.Verdict.{Verdict}
+use Rattle.requests.specs.declared.Verdict.the-variants.{Open, Yes, No}
 
 -- of two things, the one that belongs to the phase
 abbrev pub ofPhase : {A : Type 0} (phase : Phase) (reading writing : A) → A
@@ -82,7 +84,7 @@ waitingBelow (suc k) = set (waitingBelow k) k slotWaiting
 abbrev pub issuedTo : (n : ℕ) → Requests
 issuedTo n = record { slots = waitingBelow n; heard = 0 }
 
--- "the routine runs and its answer is on the way"; a read's answer is a yes, a write's is whether it was taken
+-- "the routine runs and its answer is on the way"; a read's answer is a yes unless it is outranked, a write's if it was taken
 abbrev pub servedAt : (q : Requests) (box : ℕ) (ok : Bool) → Requests
 servedAt q box ok = record { slots = set (q .slots) box (record { stage = Answered; ok = ok }); heard = q .heard }
 
@@ -98,7 +100,19 @@ atQuorum q n = eqb (countBelow (q .heard) n) (quorum n)
 unfoldable pub stillYes : (before heard : Bool) (slot : Slot) → Bool
 stillYes before heard slot = if heard then (if slot .ok then before else false) else before
 
--- "all q say taken": each of the first k boxes whose answer was received said yes
+-- "all q say taken"; none "received from a box below n is outranked": each of the first k boxes whose answer was received said yes
 unfoldable pub allYes : (q : Requests) (k : ℕ) → Bool
 allYes q zero = true
 allYes q (suc k) = stillYes (allYes q k) (heardFrom q k) (slotAt q k)
+
+-- What the answers received come to. Of reads, wish 2: "A reading station aborts at a read answer of its current attempt if any received
+-- from a box below n is outranked", however few were received; otherwise the phase ends "When the q-th read answer" is.
+unfoldable pub readVerdict : (q : Requests) (n : ℕ) → Verdict
+readVerdict q n = if allYes q n then (if atQuorum q n then Yes else Open) else No
+
+-- Of writes: "When the q-th write answer reaches a writing station, it decides if all q say taken; otherwise it aborts".
+unfoldable pub writeVerdict : (q : Requests) (n : ℕ) → Verdict
+writeVerdict q n = if atQuorum q n then (if allYes q n then Yes else No) else Open
+
+abbrev pub verdictOf : (phase : Phase) (q : Requests) (n : ℕ) → Verdict
+verdictOf phase q n = ofPhase phase (readVerdict q n) (writeVerdict q n)

@@ -4,7 +4,7 @@ ghost use mathlib.Core.Path.{_≡_};
 ghost use Prim.Native.Nat.{_≤_};
 ghost use lib.Dec.{ltb};
 ghost use Rattle.base.specs.Choice.{if_then_else_};
-ghost use Rattle.requests.specs.Requests.{noneIssued, standingOf, isWaiting, isOnTheWay, issuedTo, servedAt, receivedFrom, heardFrom, atQuorum, stillYes, allYes};
+ghost use Rattle.requests.specs.Requests.{noneIssued, standingOf, isWaiting, isOnTheWay, issuedTo, servedAt, receivedFrom, heardFrom, atQuorum, stillYes, allYes, readVerdict, writeVerdict, verdictOf};
 
 mod masks;
 mod slots;
@@ -22,7 +22,7 @@ pub enum Stage {
     Answered,
 }
 
-// A request at one box; `ok` is its answer's yes or no.
+// A request at one box; `ok` is its answer's yes or no: a read's is a yes unless it is outranked, a write's if it is taken.
 pub struct Slot {
     pub stage: Stage,
     pub ok: bool,
@@ -33,6 +33,13 @@ pub struct Slot {
 pub struct Requests {
     pub slots: [Slot; 9],
     pub heard: u16,
+}
+
+// What the answers received come to: the phase goes on, or it has ended with a yes of each, or with a no.
+pub enum Verdict {
+    Open,
+    Yes,
+    No,
 }
 
 // No request is issued.
@@ -158,4 +165,39 @@ pub fn all_yes(q: Requests, n: u8) -> bool
         return false;
     }
     yes_below(q, 9)
+}
+
+// Reads end with the first answer that says no, or with the q-th.
+fn read_verdict(q: Requests, n: u8) -> Verdict
+    ensures { λ r. ⌜ r ≡ readVerdict q n ⌝ }
+{
+    if !all_yes(q, n) {
+        return Verdict::No;
+    }
+    if at_quorum(q, n) {
+        return Verdict::Yes;
+    }
+    Verdict::Open
+}
+
+// Writes end with the q-th answer.
+fn write_verdict(q: Requests, n: u8) -> Verdict
+    ensures { λ r. ⌜ r ≡ writeVerdict q n ⌝ }
+{
+    if !at_quorum(q, n) {
+        return Verdict::Open;
+    }
+    if all_yes(q, n) {
+        return Verdict::Yes;
+    }
+    Verdict::No
+}
+
+pub fn verdict_of(q: Requests, p: Phase, n: u8) -> Verdict
+    ensures { λ r. ⌜ r ≡ verdictOf p q n ⌝ }
+{
+    match p {
+        Phase::Read => read_verdict(q, n),
+        Phase::Write => write_verdict(q, n),
+    }
 }

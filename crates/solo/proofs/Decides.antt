@@ -1,5 +1,5 @@
--- A station driven alone decides in 4q + 1 steps; on a floor built by hand it may be turned back, or its attempt may abort.
-use Prim.Native.Nat.{ℕ, zero, suc, _+_, _*_, _≤_, _<_}
+-- A station driven alone decides in 4q + 1 steps; on a floor built by hand it may be turned back, or its attempt may abort, at a read too.
+use Prim.Native.Nat.{ℕ, zero, suc, _+_, _≤_, _<_}
 use native.Mathlib.Omega.{arith}
 use native.Mathlib.Decide.{ℕ-discrete}
 use mathlib.Core.Path.{_≡_, refl, ap, subst, _∙_}
@@ -18,7 +18,7 @@ use Rattle.requests.proofs.RequestLaws.{wait-below}
 use Rattle.commands.specs.declared.Command.{Command}
 use Rattle.commands.specs.declared.Command.the-variants.{Begin}
 use Rattle.commands.specs.declared.Outcome.{Outcome}
-use Rattle.commands.specs.declared.Outcome.the-variants.{Begun}
+use Rattle.commands.specs.declared.Outcome.the-variants.{Begun, Aborted}
 use Rattle.commands.proofs.Encodings.{decode-encode}
 use Rattle.attempts.specs.Rows.{newRow}
 use Rattle.attempts.specs.Stations.{isGone, isBusy}
@@ -38,14 +38,14 @@ use Rattle.floor.proofs.Accepts.{begin-accepted}
 use Rattle.floor.proofs.Keeps.{apply-keeps, apply-lengths, row-stored, station-stored}
 use Rattle.solo.specs.Plan.{highestBegun, roundOf, answeringFrom, answering, lowest, askedOf, exchanges, beginOf, exchangesOf}
 use Rattle.solo.specs.Solo.{soloRefusal, turnedAway, ofRun, soloOf}
-use Rattle.solo.specs.Claims.{Lawful, Ready, DecidesAlone, Ends, decided, aborted}
+use Rattle.solo.specs.Claims.{Lawful, Ready, DecidesAlone, Ends, decided, aborted, outranked}
 use Rattle.solo.specs.Claims as claims
 use Rattle.solo.specs.declared.Solo.{Solo}
 use Rattle.solo.proofs.FrontLaws.{front-means, front-holds, solo-refused, solo-driven, refusal-sound, refusal-zero}
 use Rattle.solo.proofs.RoundLaws.{round-some, round-passes}
 use Rattle.solo.proofs.PhaseRequests.{all-wait}
 use Rattle.solo.proofs.Driven.{Attempt, Driven, RequestsAt}
-use Rattle.solo.proofs.Phases.{Said, says-decided, says-aborted, AtEnd, Leads, step-on, Ascending, both-driven}
+use Rattle.solo.proofs.Phases.{Over, has-decided, has-aborted, was-outranked, AtEnd, Leads, step-on, Ascending, both-driven}
 
 -- the boxes asked are in ascending order
 answering-ascends : (t : Attempt) (k b p : ℕ) → p ≤ b → b + k ≤ t .n → Ascending t p (answeringFrom k b (t .boxes))
@@ -128,15 +128,17 @@ module _ (f : Floor) (s v : ℕ) (y : Lawful f) (x : Ready f s v) where
       ∙ front-holds f s v (roundOf f s)
       (record { station = x .station; here = can-begin .here; free = can-begin .free; offer = x .offer; left = x .round; row = x .row; boxes = x .boxes })
 
-  decides : {o : Outcome} (d : Solo) → d .outcome ≡ o → d .steps ≡ 4 * quorum (f .n) + 1 → Said (f .used) o true → DecidesAlone f d
-  decides d e n (says-decided v) = record { revision = v; said = e; steps = n }
+  decides : {t : Attempt} {o : Outcome} {k : ℕ} (d : Solo) → t .n ≡ f .n → t .highest ≡ true → d .outcome ≡ o → d .steps ≡ k → Over t o k → DecidesAlone f d
+  decides d z i e n (has-decided v) = record { revision = v; said = e; steps = rw z at n }
+  decides d z i e n (has-aborted u) = clash i u
+  decides d z i e n (was-outranked u k l m) = clash i u
 
   -- a ready station driven alone decides in 4q + 1 steps
   pub solo-decides : DecidesAlone f (soloOf f s v)
   solo-decides =
       let a = run-ends f s v true (y .sound) (y .lengths) can-begin (x .boxes)
       (λ b _. (omega (arith, y .read b, passes), omega (arith, y .write b, passes))) in
-      rw (solo-driven f s v no-refusal) (decides _ refl (a .count) (a .said))
+      rw (solo-driven f s v no-refusal) (decides _ refl refl refl refl a)
 
 -- On any floor whose arrays have the lengths of their types: the begin is turned back, or the attempt is driven to its end.
 module _ (f : Floor) (s v : ℕ) (l : Lengths f) where
@@ -148,18 +150,19 @@ module _ (f : Floor) (s v : ℕ) (l : Lengths f) where
   run-back k [] e = rw (decode-encode begin, e)
   run-back k (r ∷ rs) e = rw (decode-encode begin, e)
 
-  ended : {o : Outcome} (d : Solo) → d .outcome ≡ o → d .steps ≡ 4 * quorum (f .n) + 1 → Said (f .used) o false → Ends f d
-  ended d e n (says-decided v) = decided v e n
-  ended d e n says-aborted = aborted e n
+  ended : {t : Attempt} {o : Outcome} {k : ℕ} (d : Solo) → t .n ≡ f .n → t .number ≡ f .used → d .outcome ≡ o → d .steps ≡ k → Over t o k → Ends f d
+  ended d z y e n (has-decided v) = decided v e (rw z at n)
+  ended d z y e n (has-aborted u) = aborted (e ∙ ap Aborted y) (rw z at n)
+  ended d z y e n (was-outranked u k l m) = outranked k l (rw z at m) (e ∙ ap Aborted y) n
 
   begun-or-back : {x : Stepped} → quorum (f .n) ≤ length (answering f) → applyOf f begin ≡ x → StepCase f begin x
       → Ends f (ofRun (runOf End f (beginOf f s v) (exchangesOf f)))
   begun-or-back q e (turned k t) = claims.turned k (run-back k (exchangesOf f) e)
   begun-or-back q e (began z c) =
       let a = run-ends f s v false z l c q (λ b i. clash i refl) in
-      ended _ refl (a .count) (a .said)
+      ended _ refl refl refl refl a
 
-  -- it is turned back with 0 steps, or takes 4q + 1 steps and decides or aborts
+  -- it is turned back with 0 steps, or takes 4q + 1 steps and decides or aborts, or is outranked at a read and aborts there
   pub solo-ends : Ends f (soloOf f s v)
   solo-ends = elim (ℕ-discrete (soloRefusal f s v) 0) [
     | yes e ↦ rw (solo-driven f s v e) (begun-or-back (front-means f s v (roundOf f s) (refusal-zero f s v e) .boxes) refl (apply-case f begin))

@@ -2,33 +2,36 @@
 -- the next.
 use Prim.Native.Nat.{ℕ, _+_, _≤_, _<_}
 use native.Mathlib.Omega.{arith}
-use native.Mathlib.Nat.{le-refl, max-le}
+use native.Mathlib.Nat.{le-refl}
 use mathlib.Core.Path.{_≡_, refl, sym, ap, subst, _∙_}
-use mathlib.Core.Logic.{inr}
+use mathlib.Core.Logic.{inl, inr}
 use mathlib.Core.Bool.{Bool, true, false}
 use mathlib.Core.List.{List}
 use lib.ListN.{length, getD, set}
 use lib.Seq.{getD-set-other}
 use Rattle.base.specs.Numbers.{quorum}
 use Rattle.base.specs.Mask.{countBelow}
-use Rattle.register.specs.Register.{rmwRead, rmwWrite, box0, withRegister}
-use Rattle.register.proofs.RegisterLaws.{takes-both, write-answers, write-keeps-read}
+use Rattle.register.specs.Register.{isHeld, rmwRead, rmwWrite, box0, withRegister}
+use Rattle.register.proofs.RegisterLaws.{ReadCase, outranked, answered, read-case, takes-both, write-answers, write-keeps-read}
+use Rattle.register.specs.declared.Register.{Register}
+use Rattle.register.specs.declared.ReadDone.{ReadDone}
 use Rattle.register.specs.declared.StorageBox.{StorageBox}
 use Rattle.requests.specs.Requests.{ofPhase, slot0, slotAt, servedAt, atQuorum, allYes}
-use Rattle.requests.proofs.RequestLaws.{served-slot, wait-below, quorum-holds, quorum-not, yes-holds}
+use Rattle.requests.proofs.RequestLaws.{served-slot, wait-below, quorum-holds, quorum-not, yes-holds, verdict-open}
 use Rattle.base.proofs.Stores.{set-all}
 use Rattle.requests.specs.declared.Phase.{Phase}
 use Rattle.requests.specs.declared.Phase.the-variants.{Read, Write}
 use Rattle.requests.specs.declared.Slot.{Slot}
 use Rattle.requests.specs.declared.Requests.{Requests}
+use Rattle.requests.specs.declared.Verdict.the-variants.{No}
 use Rattle.attempts.specs.Rows.{row0, requestsOf, issued, revisionOf, rowServed, registerServed, requestsHeard}
 use Rattle.floor.specs.Floors.{boxAt, stationAt, rowAt, ownerAt, withRow}
-use Rattle.attempts.specs.Stations.{isGone, isIn}
+use Rattle.attempts.specs.Stations.{isIn}
 use Rattle.floor.specs.Claims.{Sound, Lengths, CanDeliver}
-use Rattle.floor.specs.Effects.{heardRow, stepped, afterServe, afterIssue, afterDecision, afterAbort}
+use Rattle.floor.specs.Effects.{heardRow, stepped, afterServe, afterIssue, afterDecision, afterAbort, verdictOn}
 use Rattle.floor.specs.Step.{applyOf}
-use Rattle.attempts.proofs.StationTests.{reading-holds, writing-holds}
-use Rattle.floor.proofs.Accepts.{serve-accepted, received, write-issued, write-decided, write-aborted}
+use Rattle.attempts.proofs.StationTests.{reading-holds, writing-holds, here-in}
+use Rattle.floor.proofs.Accepts.{serve-accepted, received, aborted, write-issued, write-decided}
 use Rattle.floor.proofs.Keeps.{apply-keeps, apply-lengths, apply-sizes, used-stored, owner-stored}
 use Rattle.floor.proofs.RowLaws.{apply-used, row-same, requests-put}
 use Rattle.attempts.specs.declared.State.{State}
@@ -116,28 +119,32 @@ module _ {t : Attempt} {f : Phase} {p : ℕ} {g : Floor} (d : Driven t f p g) wh
 before-quorum : (h : Requests) (n : ℕ) → countBelow (h .heard) n < quorum n → atQuorum h n ≡ false
 before-quorum h n l = quorum-not h n (λ (e : countBelow (h .heard) n ≡ quorum n). omega arith)
 
--- a station in a phase is not gone, and is in that phase of its attempt
-here-in : (f : Phase) (a : ℕ) → isGone (stateIn f a) ≡ false
-here-in Read a = refl
-here-in Write a = refl
-
+-- a station in a phase is in that phase of its attempt
 in-holds : (f : Phase) (a : ℕ) → isIn f (stateIn f a) a ≡ true
 in-holds Read a = reading-holds a
 in-holds Write a = writing-holds a
 
--- A box that serves a read has served no higher rank than before, or the attempt's own; one that has served no higher rank and not
--- the write takes it.
+-- A box that serves a read has served no higher rank than before, or the attempt's own. One that has served no higher rank answers it, and
+-- takes the write where it has not served that.
 
-box-read : {t : Attempt} {p b r : ℕ} {x : StorageBox} → r ≡ t .rank → BoxOk t p b x → BoxOk t p b (withRegister x (rmwRead (x .register) r .register))
-unfolding rmwRead
-box-read {t} e o = record { stopped = o .stopped; read = λ i. max-le (o .read i) (rw e (le-refl (t .rank))); write = o .write }
+box-read : {t : Attempt} {p b r : ℕ} {x : StorageBox} {d : ReadDone} → r ≡ t .rank → BoxOk t p b x → ReadCase (x .register) r d → BoxOk t p b (withRegister x (d .register))
+box-read e o (outranked h) = o
+box-read {t} e o (answered h k) = record { stopped = o .stopped; read = λ i. rw e (le-refl (t .rank)); write = o .write }
+
+read-answers : {r : ℕ} {x : Register} {d : ReadDone} → x .read ≤ r → x .write ≤ r → ReadCase x r d → isHeld (d .answer) ≡ true
+read-answers h k (outranked (inl e)) = absurd (omega arith)
+read-answers h k (outranked (inr e)) = absurd (omega arith)
+read-answers h k (answered _ _) = refl
+
+box-answers : {t : Attempt} {b : ℕ} {x : StorageBox} (r : ℕ) → r ≡ t .rank → BoxOk t 0 b x → t .highest ≡ true → isHeld (rmwRead (x .register) r .answer) ≡ true
+box-answers {x = x} r e o i = read-answers (rw e (o .read i)) (omega (arith, e, o .write i (omega arith))) (read-case (x .register) r)
 
 box-written : {t : Attempt} {p b : ℕ} {x : StorageBox} (r v : ℕ) → BoxOk t p b x → BoxOk t (b + 1) b (withRegister x (rmwWrite (x .register) r v .register))
 box-written {x = x} r v o = record { stopped = o .stopped; read = λ i. rw (write-keeps-read (x .register) r v) (o .read i); write = λ i u. absurd (omega arith) }
 
 box-served : {t : Attempt} {b : ℕ} {x : StorageBox} (p : ℕ) (f : Phase) (w : Row) → w .rank ≡ t .rank → BoxOk t (askedBelow f p) b x
     → BoxOk t (askedBelow f (b + 1)) b (withRegister x (registerServed f w (x .register)))
-box-served p Read w e o = box-read e o
+box-served {x = x} p Read w e o = box-read e o (read-case (x .register) (w .rank))
 box-served p Write w e o = box-written (w .rank) (w .written) o
 
 box-later : {t : Attempt} {p b j : ℕ} {x : StorageBox} (f : Phase) → p ≤ b → BoxOk t (askedBelow f p) j x → BoxOk t (askedBelow f (b + 1)) j x
@@ -160,7 +167,7 @@ one-served t x ok {b = b} r l h i y =
 module _ {t : Attempt} {p b : ℕ} {x : StorageBox} (w : Row) (e : w .rank ≡ t .rank) (l : p ≤ b) where
   requests-sent : (f : Phase) {k : ℕ} → BoxOk t (askedBelow f p) b x → b < t .n → b < length (requestsOf f w .slots) → RequestsAt t p k (requestsOf f w)
       → RequestsSent t b k (requestsOf f (rowServed f w (x .register) b))
-  requests-sent Read o h i r = one-served t (w .read) true r l h i (λ _. refl)
+  requests-sent Read o h i r = one-served t (w .read) _ r l h i (λ u. box-answers (w .rank) e o u)
   requests-sent Write o h i r = one-served t (w .write) _ r l h i (λ u. box-takes (w .rank) (w .written) e l o u)
 
 -- box b, which answers and was not asked yet, serves the request
@@ -183,22 +190,33 @@ module _ {t : Attempt} {g : Floor} {p k : ℕ} (f : Phase) (d : Driven t f p g) 
 
 -- its answer is delivered
 module _ {t : Attempt} {g : Floor} {b k : ℕ} (f : Phase) (d : Driven t f (b + 1) g) (h : b < t .n) (r : RequestsSent t b k (requestsOf f (rowAt g (t .number)))) where
-  can : CanDeliver g f (t .number) b
-  can = record { used = d .begun; box = rw (d .size) h; here = ap isGone (owner-state d) ∙ here-in f (t .number); arrives = r .coming }
-
   in-phase : isIn f (ownerAt g (t .number) .state) (t .number) ≡ true
   in-phase = ap (λ (x : State). isIn f x (t .number)) (owner-state d) ∙ in-holds f (t .number)
+
+  can : CanDeliver g f (t .number) b
+  can = record { used = d .begun; box = rw (d .size) h; here = here-in f (ownerAt g (t .number) .state) (t .number) in-phase; arrives = r .coming }
 
   heard : RequestsAt t (b + 1) (k + 1) (requestsHeard f (rowAt g (t .number)) b)
   heard = one-heard r h
 
+  -- whether all said yes, as they did where the attempt's rank is the highest
+  abbrev pub allSaid : Bool
+  allSaid = allYes (requestsHeard f (rowAt g (t .number)) b) (g .n)
+
+  pub all-said : t .highest ≡ true → allSaid ≡ true
+  all-said i = yes-holds (requestsHeard f (rowAt g (t .number)) b) (g .n) (λ j _ e. heard .good j e i)
+
   -- before the q-th
   module _ (q : k + 1 < quorum (t .n)) where
-    pub more : applyOf g (Deliver f (t .number) b) ≡ stepped (withRow g (t .number) (heardRow g f (t .number) b)) (Received (t .number))
-    more = received g (d .sound) (t .number) b f can (inr (rw (d .size) (before-quorum _ (t .n) (rw (heard .count) q))))
+    unfilled : atQuorum (requestsHeard f (rowAt g (t .number)) b) (g .n) ≡ false
+    unfilled = rw (d .size) (before-quorum _ (t .n) (rw (heard .count) q))
 
-    pub more-driven : Driven t f (b + 1) (withRow g (t .number) (heardRow g f (t .number) b))
-    more-driven = driven-on (Deliver f (t .number) b) _ d more (d .boxes) (d .state)
+    module _ (y : f ≡ Read → allSaid ≡ true) where
+      pub more : applyOf g (Deliver f (t .number) b) ≡ stepped (withRow g (t .number) (heardRow g f (t .number) b)) (Received (t .number))
+      more = received g (d .sound) (t .number) b f can (inr (verdict-open _ (g .n) f unfilled y))
+
+      pub more-driven : Driven t f (b + 1) (withRow g (t .number) (heardRow g f (t .number) b))
+      more-driven = driven-on (Deliver f (t .number) b) _ d more (d .boxes) (d .state)
 
     pub more-requests : RequestsAt t (b + 1) (k + 1) (requestsOf f (rowAt (withRow g (t .number) (heardRow g f (t .number) b)) (t .number)))
     more-requests =
@@ -206,11 +224,17 @@ module _ {t : Attempt} {g : Floor} {b k : ℕ} (f : Phase) (d : Driven t f (b + 
         (rw (requests-put f (rowAt g (t .number)) (requestsHeard f (rowAt g (t .number)) b)) heard)
 
   -- the q-th
-  full : k + 1 ≡ quorum (t .n) → atQuorum (requestsHeard f (rowAt g (t .number)) b) (g .n) ≡ true
+  pub full : k + 1 ≡ quorum (t .n) → atQuorum (requestsHeard f (rowAt g (t .number)) b) (g .n) ≡ true
   full q = rw (d .size) (quorum-holds _ (t .n) (heard .count ∙ q))
 
--- the q-th answer to the read: the write is issued
-module _ {t : Attempt} {g : Floor} {b k : ℕ} (d : Driven t Read (b + 1) g) (h : b < t .n) (r : RequestsSent t b k (rowAt g (t .number) .read)) (q : k + 1 ≡ quorum (t .n)) where
+  -- one that ends the phase with a no
+  pub aborts : verdictOn g f (t .number) b ≡ No
+      → applyOf g (Deliver f (t .number) b) ≡ stepped (afterAbort g (t .number) (heardRow g f (t .number) b)) (Aborted (t .number))
+  aborts = aborted g (d .sound) (t .number) b f can in-phase
+
+-- the q-th answer to the read, none of them outranked: the write is issued
+module _ {t : Attempt} {g : Floor} {b k : ℕ} (d : Driven t Read (b + 1) g) (h : b < t .n) (r : RequestsSent t b k (rowAt g (t .number) .read)) (q : k + 1 ≡ quorum (t .n))
+    (y : allSaid Read d h r ≡ true) where
   abbrev pub chosen : ℕ
   chosen = revisionOf (heardRow g Read (t .number) b) (g .n)
 
@@ -218,7 +242,7 @@ module _ {t : Attempt} {g : Floor} {b k : ℕ} (d : Driven t Read (b + 1) g) (h 
   issuedFloor = afterIssue g (t .number) (heardRow g Read (t .number) b) chosen
 
   pub read-last : applyOf g (Deliver Read (t .number) b) ≡ stepped issuedFloor (WriteIssued chosen)
-  read-last = write-issued g (d .sound) (t .number) b (can Read d h r) (in-phase Read d h r) (full Read d h r q)
+  read-last = write-issued g (d .sound) (t .number) b (can Read d h r) (in-phase Read d h r) (full Read d h r q) y
 
   pub read-last-driven : Driven t Write 0 issuedFloor
   read-last-driven =
@@ -232,19 +256,8 @@ module _ {t : Attempt} {g : Floor} {b k : ℕ} (d : Driven t Read (b + 1) g) (h 
       row-stored d (λ w. RequestsAt t 0 0 (w .write)) (issued (heardRow g Read (t .number) b) chosen (g .n))
       (all-wait (t .n) _ _ (λ j i. ap (λ (x : Slot). x .stage) (wait-below (g .n) (d .sound .box-most) j (rw (d .size) i))))
 
--- the q-th answer to the write: the station decides where all were taken, as they were where its rank is the highest, and aborts
--- otherwise
+-- the q-th answer to the write, all taken: the station decides
 module _ {t : Attempt} {g : Floor} {b k : ℕ} (d : Driven t Write (b + 1) g) (h : b < t .n) (r : RequestsSent t b k (rowAt g (t .number) .write)) (q : k + 1 ≡ quorum (t .n)) where
-  abbrev pub allSaid : Bool
-  allSaid = allYes (heardRow g Write (t .number) b .write) (g .n)
-
-  pub all-said : t .highest ≡ true → allSaid ≡ true
-  all-said i = yes-holds (heardRow g Write (t .number) b .write) (g .n) (λ j _ e. heard Write d h r .good j e i)
-
-  pub write-decides : allSaid ≡ true
+  pub write-decides : allSaid Write d h r ≡ true
       → applyOf g (Deliver Write (t .number) b) ≡ stepped (afterDecision g (t .number) (heardRow g Write (t .number) b)) (Decided (rowAt g (t .number) .written))
   write-decides = write-decided g (d .sound) (t .number) b (can Write d h r) (in-phase Write d h r) (full Write d h r q)
-
-  pub write-aborts : allSaid ≡ false
-      → applyOf g (Deliver Write (t .number) b) ≡ stepped (afterAbort g (t .number) (heardRow g Write (t .number) b)) (Aborted (t .number))
-  write-aborts = write-aborted g (d .sound) (t .number) b (can Write d h r) (in-phase Write d h r) (full Write d h r q)

@@ -58,12 +58,14 @@ pub record DecidesAlone (f : Floor) (d : Solo) : Type 0 where
   pub said : d .outcome ≡ Decided revision
   pub steps : d .steps ≡ 4 * quorum (f .n) + 1
 
--- What a solo finish on any floor comes to, one built by hand too: it is turned back with 0 steps and leaves the floor, or it takes
--- 4q + 1 steps, at the last of which the station decides or the attempt, the floor's next row, aborts.
+-- What a solo finish on any floor comes to, one built by hand too: it is turned back with 0 steps and leaves the floor; or it takes
+-- 4q + 1 steps, at the last of which the station decides or the attempt, the floor's next row, aborts; or the attempt aborts at its k-th
+-- read answer, after the begin and k exchanges.
 pub data Ends (f : Floor) (d : Solo) : Type 0 where
   turned : (k : ℕ) → d ≡ turnedAway f k → Ends f d
   decided : (v : ℕ) → d .outcome ≡ Decided v → d .steps ≡ 4 * quorum (f .n) + 1 → Ends f d
   aborted : d .outcome ≡ Aborted (f .used) → d .steps ≡ 4 * quorum (f .n) + 1 → Ends f d
+  outranked : (k : ℕ) → 1 ≤ k → k ≤ quorum (f .n) → d .outcome ≡ Aborted (f .used) → d .steps ≡ 2 * k + 1 → Ends f d
 
 -- What holds of every solo finish.
 pub record SoloClaims : Type 0 where

@@ -1,9 +1,14 @@
-use native.Mathlib.Nat.{max-eq-right, max-eq-left, le-of-lt}
-use Rattle.register.specs.Register.{rmwRead}
+use borrow.Author.Needs.{needs}
+use mathlib.Core.Path.{sym}
+use Rattle.base.proofs.Tests.{tests}
+use Rattle.register.proofs.RegisterLaws.{read-outranked, read-answered}
 use Rattle.register.proofs.rmw_read.Statement.{statement}
 use Rattle.register.proofs.rmw_read.Tie as tie
 
 pub rmw-read-spec : {M : Type 1} → statement M
-unfolding rmwRead
 rmw-read-spec =
-    tie.close (tie.spec (λ c. rw (max-eq-right (le-of-lt (c .if1 .taken)))) (λ c. rw (max-eq-left (c .if1 .left))))
+    tie.close
+    (tie.spec
+    (λ c κs. search needs)
+    (λ c. sym (read-answered _ _ (search tests)))
+    (λ c. sym (read-outranked _ _ (search tests))))

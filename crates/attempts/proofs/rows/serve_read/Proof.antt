@@ -9,9 +9,15 @@ serve-read-spec =
     (tie.spec
     (λ c κs. search needs)
     (λ c κs. search needs)
+    (λ c κs. search needs)
+    (λ c κs. search needs)
+    (λ c κs. search needs)
     (λ c. search needs)
     (λ c. search needs)
-    (λ c. rw (c .before .served .ensures, c .before .before .before .before .rmw-read .ensures))
     (λ c.
-    let s = c .before .before .before .before .before in
-    rw (c .before .served .ensures, c .before .before .before .before .rmw-read .ensures, none-answered (s .args .w) _ (s .good .0) (s .args .b) _ (c .if1 .left))))
+    let kept = c .before .before .before in
+    rw (c .before .value-in .ensures, c .before .before .rank-in .ensures, kept .served .ensures, kept .before .held .ensures, kept .before .before .before .before .rmw-read .ensures))
+    (λ c.
+    let kept = c .before .before .before in
+    let s = kept .before .before .before .before .before in
+    rw (kept .served .ensures, kept .before .held .ensures, kept .before .before .before .before .rmw-read .ensures, none-answered (s .args .w) _ (s .good .0) (s .args .b) _ (c .if1 .left))))
