@@ -4,7 +4,7 @@
 mod generate;
 mod reference;
 
-use reference::{Phase, Played, Said, State, Step};
+use reference::{Answer, Phase, Played, Request, Said, State, Step};
 use std::collections::BTreeMap;
 use std::io::Write;
 use std::path::Path;
@@ -147,7 +147,7 @@ fn claims(played: &Played) -> Result<(), String> {
                 }
                 decided.push((begun[attempt].0, revision));
             }
-            (Step::Deliver { phase: Phase::Write, attempt, .. }, Said::Aborted(_)) => {
+            (Step::Deliver { attempt, .. }, Said::Aborted(_)) => {
                 if highest_served <= begun[attempt].1 {
                     return Err(format!("abort: attempt {attempt} aborts, and no higher rank was served before"));
                 }
@@ -187,10 +187,19 @@ fn cover(played: &Played, reached: &mut Coverage) {
         ("gone after deciding", floor.stations.iter().any(|s| s.state == State::Gone && s.decided.is_some())),
         ("1,000 accepted steps or more", played.trace.len() >= 1000),
     ];
+    let outranked = |r: &Request<Answer>| *r == Request::Received(Answer::Outranked);
     let (mut late, mut adopted, mut differ) = (false, false, false);
+    let mut at_a_read = [0, 0]; // aborts at the first answer to a read, and at a later one
+    let mut read = vec![0; floor.attempts.len()]; // answers to its reads that were received
     let mut over = vec![false; floor.attempts.len()];
     let mut writes: Vec<u32> = Vec::new();
     for (step, said) in &played.trace {
+        if let Step::Deliver { phase: Phase::Read, attempt, .. } = *step {
+            read[attempt] += 1;
+            if let Said::Aborted(_) = *said {
+                at_a_read[(read[attempt] > 1) as usize] += 1;
+            }
+        }
         match (*step, *said) {
             (Step::Serve { attempt, .. }, _) => late |= over[attempt],
             (_, Said::Decided(_)) | (_, Said::Aborted(_)) => {
@@ -214,6 +223,11 @@ fn cover(played: &Played, reached: &mut Coverage) {
     all.push(("a request served after its attempt was over", late));
     all.push(("a write of another's revision", adopted));
     all.push(("writes of different revisions", differ));
+    all.push(("aborted at the first answer to a read", at_a_read[0] > 0));
+    all.push(("aborted at a later answer to a read", at_a_read[1] > 0));
+    all.push(("aborted at a read and at a write", at_a_read[0] + at_a_read[1] > 0 && aborted > at_a_read[0] + at_a_read[1]));
+    all.push(("an outranked answer received behind the write", floor.attempts.iter().any(|a| a.written.is_some() && a.reads.iter().any(outranked))));
+    all.push(("a second outranked answer received", floor.attempts.iter().any(|a| a.reads.iter().filter(|r| outranked(r)).count() > 1)));
     for (what, holds) in all {
         if holds {
             note(reached, what);

@@ -135,6 +135,8 @@ struct Habit {
     gone: usize,
     /// how often a write that the box would take is put off, in percent, while attempts are left
     late: usize,
+    /// how often a read that the box would answer "outranked" is put off, in percent
+    spared: usize,
     /// how often a begin does not outrank the others, in percent
     low: usize,
 }
@@ -151,6 +153,7 @@ fn habit(r: &mut Random) -> Habit {
         stop: if rough { r.below(3) } else { 0 },
         gone: if rough { r.below(3) } else { 0 },
         late: r.pick(&[0, 30, 80, 95, 100]),
+        spared: r.pick(&[0, 0, 50, 90, 100]),
         low: r.pick(&[0, 0, 5, 40]),
     }
 }
@@ -200,7 +203,10 @@ fn accepted(r: &mut Random, floor: &Floor, h: &Habit) -> Option<Step> {
             ] {
                 if waiting && !storage.stopped {
                     let taken = storage.read_rank <= a.rank && storage.held.map_or(0, |x| x.0) < a.rank;
-                    let put_off = phase == Phase::Write && taken && floor.attempts.len() < MOST_ATTEMPTS && r.percent(h.late);
+                    let put_off = match phase {
+                        Phase::Read => storage.outranks(a.rank) && r.percent(h.spared),
+                        Phase::Write => taken && floor.attempts.len() < MOST_ATTEMPTS && r.percent(h.late),
+                    };
                     let kind = if put_off { 5 } else { phase as usize };
                     by_kind[kind].push(Step::Serve { phase, attempt: number, at: b });
                 }
@@ -231,7 +237,7 @@ fn accepted(r: &mut Random, floor: &Floor, h: &Habit) -> Option<Step> {
     ];
     let total: usize = weights.iter().sum();
     if total == 0 {
-        // nothing is left but writes that were put off
+        // nothing is left but requests that were put off
         return if by_kind[5].is_empty() { None } else { Some(r.pick(&by_kind[5])) };
     }
     let mut at = r.below(total);

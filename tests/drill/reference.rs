@@ -50,6 +50,13 @@ pub enum Request<A> {
 /// A write that a box took: its rank and its revision.
 pub type Held = Option<(u32, u32)>;
 
+/// What a box answers to a read. Document 02, wish 2: what it holds, or that the read is outranked.
+#[derive(Clone, Copy, Debug, PartialEq)]
+pub enum Answer {
+    Holds(Held),
+    Outranked,
+}
+
 #[derive(Clone, Debug)]
 pub struct StorageBox {
     pub read_rank: u32,
@@ -80,7 +87,7 @@ pub struct Attempt {
     pub rank: u32,
     pub offer: u32,
     pub written: Option<u32>,
-    pub reads: Vec<Request<Held>>,
+    pub reads: Vec<Request<Answer>>,
     pub writes: Vec<Request<bool>>,
 }
 
@@ -94,16 +101,27 @@ pub struct Floor {
 pub const MOST_ATTEMPTS: usize = 64;
 
 impl StorageBox {
+    fn write_rank(&self) -> u32 {
+        self.held.map_or(0, |(r, _)| r)
+    }
+
+    /// Document 02, wish 2: a box with a read or write rank above the rank answers "outranked" and changes nothing.
+    pub fn outranks(&self, rank: u32) -> bool {
+        self.read_rank > rank || self.write_rank() > rank
+    }
+
     /// Figure 3, read: the read rank becomes the larger of itself and the rank.
-    fn read(&mut self, rank: u32) -> Held {
+    fn read(&mut self, rank: u32) -> Answer {
+        if self.outranks(rank) {
+            return Answer::Outranked;
+        }
         self.read_rank = self.read_rank.max(rank);
-        self.held
+        Answer::Holds(self.held)
     }
 
     /// Figure 3, write: taken if read rank ≤ rank and write rank < rank.
     fn write(&mut self, rank: u32, revision: u32) -> bool {
-        let write_rank = self.held.map_or(0, |(r, _)| r);
-        let taken = self.read_rank <= rank && write_rank < rank;
+        let taken = self.read_rank <= rank && self.write_rank() < rank;
         if taken {
             self.held = Some((rank, revision));
         }
@@ -215,12 +233,20 @@ impl Floor {
         let Request::OnTheWay(answer) = attempt.reads[from] else { return Err(14) };
         attempt.reads[from] = Request::Received(answer);
         let answers = received(&attempt.reads);
-        if station.state != State::Reading(number) || answers.len() != q {
+        if station.state != State::Reading(number) {
+            return Ok(Said::Received(number));
+        }
+        if answers.contains(&Answer::Outranked) {
+            station.state = State::Idle;
+            return Ok(Said::Aborted(number));
+        }
+        if answers.len() != q {
             return Ok(Said::Received(number));
         }
         // the highest write rank among the q, of equals the lowest-numbered box's; an answer that holds nothing has rank 0
         let mut best: Held = None;
-        for held in answers {
+        for answer in answers {
+            let Answer::Holds(held) = answer else { continue };
             if held.map_or(0, |(r, _)| r) > best.map_or(0, |(r, _)| r) {
                 best = held;
             }

@@ -1,5 +1,5 @@
 /* Calls box_read and box_write as box firmware does, and compares answer and memory with document 01, "The box routine" and refusals 16
- * and 17. Prints the number of checks made, or the first that fails, with exit status 1. Valid C99 and C++11. */
+ * and 17, and with wish 2 of document 02. Prints the number of checks made, or the first that fails, with exit status 1. Valid C99 and C++11. */
 #include "box_firmware.h"
 #include "box_firmware.h" /* a second time: the header's guard */
 
@@ -48,13 +48,20 @@ static void compare(const struct bench *b, uint32_t answer, uint32_t wanted, int
     check(memcmp(b->reply, b->reply_wanted, ROOM) == 0, line, "reply and guard bytes are those wanted");
 }
 
-/* A read or a write that is not refused: record and reply after it are given. */
+/* A read that is answered, one that is outranked, or a write: record and reply after it are given. */
 static void read_gives(const uint8_t *before, uint32_t rank, const uint8_t *after, const uint8_t *reply, int line) {
     struct bench b;
     lay_out(&b, before, 12, 0);
     memcpy(b.record_wanted + AT, after, 12);
     memcpy(b.reply_wanted + AT, reply, 8);
     compare(&b, box_read(b.record + AT, 12, rank, b.reply + AT, 8), 0, line);
+}
+
+static void read_outranked(const uint8_t *record, uint32_t rank, int line) {
+    struct bench b;
+    lay_out(&b, record, 12, 0);
+    memset(b.reply_wanted + AT, 0, 8);
+    compare(&b, box_read(b.record + AT, 12, rank, b.reply + AT, 8), 100, line);
 }
 
 static void write_gives(const uint8_t *before, uint32_t rank, uint32_t revision, uint32_t wanted, const uint8_t *after, int line) {
@@ -70,6 +77,7 @@ static void header(void) {
     CHECK(BOX_RECORD_BYTES == 12);
     CHECK(BOX_REPLY_BYTES == 8);
     CHECK(BOX_DONE == 0);
+    CHECK(BOX_OUTRANKED == 100);
     CHECK(BOX_NOT_TAKEN == 100);
     CHECK(BOX_REFUSED_LENGTH == 16);
     CHECK(BOX_REFUSED_ZERO == 17);
@@ -78,20 +86,25 @@ static void header(void) {
 /* ---- The layout, byte for byte: read rank, write rank, value, each big-endian; the reply is write rank and value */
 
 static void layout(void) {
-    static const uint8_t record[12] = {0x01, 0x02, 0x03, 0x04, 0x05, 0x06, 0x07, 0x08, 0x09, 0x0A, 0x0B, 0x0C};
-    static const uint8_t reply[8] = {0x05, 0x06, 0x07, 0x08, 0x09, 0x0A, 0x0B, 0x0C};
-    static const uint8_t raised[12] = {0xF1, 0xE2, 0xD3, 0xC4, 0x05, 0x06, 0x07, 0x08, 0x09, 0x0A, 0x0B, 0x0C};
-    static const uint8_t written[12] = {0x01, 0x02, 0x03, 0x04, 0xF1, 0xE2, 0xD3, 0xC4, 0xB5, 0xA6, 0x97, 0x88};
+    static const uint8_t record[12] = {0x05, 0x06, 0x07, 0x08, 0x01, 0x02, 0x03, 0x04, 0x09, 0x0A, 0x0B, 0x0C};
+    static const uint8_t reply[8] = {0x01, 0x02, 0x03, 0x04, 0x09, 0x0A, 0x0B, 0x0C};
+    static const uint8_t raised[12] = {0xF1, 0xE2, 0xD3, 0xC4, 0x01, 0x02, 0x03, 0x04, 0x09, 0x0A, 0x0B, 0x0C};
+    static const uint8_t written[12] = {0x05, 0x06, 0x07, 0x08, 0xF1, 0xE2, 0xD3, 0xC4, 0xB5, 0xA6, 0x97, 0x88};
+    /* a write rank above the read rank, as no run of calls leaves it */
+    static const uint8_t unread[12] = {0x01, 0x02, 0x03, 0x04, 0x05, 0x06, 0x07, 0x08, 0x09, 0x0A, 0x0B, 0x0C};
+    static const uint8_t unread_reply[8] = {0x05, 0x06, 0x07, 0x08, 0x09, 0x0A, 0x0B, 0x0C};
+    static const uint8_t unread_raised[12] = {0x05, 0x06, 0x07, 0x08, 0x05, 0x06, 0x07, 0x08, 0x09, 0x0A, 0x0B, 0x0C};
     static const uint8_t zeros[12] = {0, 0, 0, 0, 0, 0, 0, 0, 0, 0, 0, 0};
     static const uint8_t zeros_raised[12] = {0, 0, 0, 1, 0, 0, 0, 0, 0, 0, 0, 0};
     static const uint8_t ones[12] = {0xFF, 0xFF, 0xFF, 0xFF, 0xFF, 0xFF, 0xFF, 0xFF, 0xFF, 0xFF, 0xFF, 0xFF};
-    /* one number raised by one in each byte of the read rank: which bytes a rank is compared by */
-    static const uint32_t above[4] = {0x02020304u, 0x01030304u, 0x01020404u, 0x01020305u};
-    static const uint32_t below[4] = {0x00020304u, 0x01010304u, 0x01020204u, 0x01020303u};
+    /* 0x05060708 raised or lowered by one in each byte: which bytes a rank is compared by */
+    static const uint32_t above[4] = {0x06060708u, 0x05070708u, 0x05060808u, 0x05060709u};
+    static const uint32_t below[4] = {0x04060708u, 0x05050708u, 0x05060608u, 0x05060707u};
     int i;
 
     read_gives(record, 0xF1E2D3C4u, raised, reply, __LINE__);
-    read_gives(record, 0x01020304u, record, reply, __LINE__);
+    read_gives(record, 0x05060708u, record, reply, __LINE__); /* a rank equal to the read rank is not outranked */
+    read_gives(unread, 0x05060708u, unread_raised, unread_reply, __LINE__); /* nor one equal to the write rank */
     write_gives(record, 0xF1E2D3C4u, 0xB5A69788u, 0, written, __LINE__);
     read_gives(zeros, 1, zeros_raised, zeros, __LINE__);
     read_gives(ones, 0xFFFFFFFFu, ones, ones, __LINE__);
@@ -101,7 +114,8 @@ static void layout(void) {
         memcpy(after, record, 12);
         after[i] = (uint8_t)(after[i] + 1);
         read_gives(record, above[i], after, reply, __LINE__);
-        read_gives(record, below[i], record, reply, __LINE__);
+        read_outranked(record, below[i], __LINE__); /* by the read rank alone */
+        read_outranked(unread, below[i], __LINE__); /* by the write rank alone */
         write_gives(record, below[i], 9, 100, record, __LINE__);
     }
 }
@@ -123,7 +137,9 @@ static void examples(void) {
     write_gives(d, 17, 7, 0, d_after, __LINE__);         /* with the rank of its own read it is taken */
     write_gives(c_after, 16, 9, 100, c_after, __LINE__); /* E: not taken */
     write_gives(c_after, 17, 9, 0, e_after, __LINE__);   /* with the next rank it is taken, and the read rank stays */
-    read_gives(f, 18, f, f_reply, __LINE__);             /* F: answer (16, 7), unchanged */
+    read_outranked(f, 18, __LINE__);                     /* F: outranked, unchanged (wish 2) */
+    read_outranked(f, 32, __LINE__);                     /* so is the rank next below the read rank */
+    read_gives(f, 33, f, f_reply, __LINE__);             /* the rank of the last read is answered (16, 7) */
     read_gives(f, 34, f_after, f_reply, __LINE__);       /* a higher read has the same answer and raises the read rank */
 }
 
@@ -170,7 +186,7 @@ static void refused_writes(void) {
     }
 }
 
-/* ---- Pseudo-random calls against Figure 3 */
+/* ---- Pseudo-random calls against Figure 3, with the early answer of wish 2 */
 
 #define CALLS 100000
 
@@ -195,15 +211,20 @@ static void put(uint8_t *p, uint32_t x) {
 }
 
 /* What came of the calls: each has to come often. */
-enum { RAISED, NOT_RAISED, TAKEN, BELOW_READ_RANK, BELOW_WRITE_RANK, AT_READ_RANK, AT_WRITE_RANK, LENGTH, ZERO, KINDS };
+enum { RAISED, NOT_RAISED, BELOW_BOTH, BELOW_READ_ONLY, BELOW_WRITE_ONLY, TAKEN, BELOW_READ_RANK, BELOW_WRITE_RANK, AT_READ_RANK, AT_WRITE_RANK, LENGTH, ZERO, KINDS };
 static unsigned long count[KINDS];
 
-/* Figure 3's x with its rmw-read and rmw-write, as document 01 reads them. */
+/* Figure 3's x with its rmw-read and rmw-write, as document 01 and wish 2 of document 02 read them. */
 struct ranked { uint32_t read, write, value; };
 
-static void figure_3_read(struct ranked *x, uint32_t r) {
+static uint32_t figure_3_read(struct ranked *x, uint32_t r) {
+    if (x->read > r || x->write > r) {
+        count[x->write <= r ? BELOW_READ_ONLY : x->read <= r ? BELOW_WRITE_ONLY : BELOW_BOTH]++;
+        return 100;
+    }
     count[x->read < r ? RAISED : NOT_RAISED]++;
-    if (x->read < r) x->read = r;
+    x->read = r;
+    return 0;
 }
 
 static uint32_t figure_3_write(struct ranked *x, uint32_t r, uint32_t v) {
@@ -223,18 +244,18 @@ static uint32_t figure_3_write(struct ranked *x, uint32_t r, uint32_t v) {
 static uint32_t wanted_of(struct bench *b, size_t shift, int write, size_t record_len, size_t reply_len, uint32_t rank, uint32_t revision) {
     uint8_t *s = b->record_wanted + AT + shift, *p = b->reply_wanted + AT + shift;
     struct ranked x;
-    uint32_t answer = 0;
+    uint32_t answer;
     if (record_len != 12 || reply_len != 8) { count[LENGTH]++; return 16; }
     if (rank == 0 || (write && revision == 0)) { count[ZERO]++; return 17; }
     x.read = get(s);
     x.write = get(s + 4);
     x.value = get(s + 8);
     if (write) answer = figure_3_write(&x, rank, revision);
-    else figure_3_read(&x, rank);
+    else answer = figure_3_read(&x, rank);
     put(s, x.read);
     put(s + 4, x.write);
     put(s + 8, x.value);
-    if (!write) { put(p, x.write); put(p + 4, x.value); }
+    if (!write) { put(p, answer ? 0 : x.write); put(p + 4, answer ? 0 : x.value); }
     return answer;
 }
 
@@ -287,7 +308,7 @@ static void random_calls(void) {
         if (record_len == 12) memcpy(record, b.record + AT + shift, 12);
     }
     for (k = 0; k < KINDS; k++) CHECK(count[k] >= CALLS / 100);
-    CHECK(count[RAISED] + count[NOT_RAISED] + count[TAKEN] + count[BELOW_READ_RANK] + count[BELOW_WRITE_RANK] + count[LENGTH] + count[ZERO] == CALLS);
+    CHECK(count[RAISED] + count[NOT_RAISED] + count[BELOW_BOTH] + count[BELOW_READ_ONLY] + count[BELOW_WRITE_ONLY] + count[TAKEN] + count[BELOW_READ_RANK] + count[BELOW_WRITE_RANK] + count[LENGTH] + count[ZERO] == CALLS);
 }
 
 int main(void) {

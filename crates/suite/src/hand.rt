@@ -1,18 +1,46 @@
 // Changes of a floor by hand, as records:
 //
 //     f0 boxes stations rows                  how many there are, of rows how many are in use
-//     f1 row station readers writers          the station of a row, and its masks of the boxes whose answers were received
+//     f1 row station readers writers          the station of a row, and its masks of the boxes whose answers were received; those to
+//                                             reads say what the box held
 //     f2 box read write value stopped         a box
 //     f3 station state attempt last decided   a station; its state counts from 0, in the order of `State`
+//     f7 row boxes                            the answers to the reads of a row that are outranked, as a mask of boxes
 use attempts::Row;
 use attempts::State;
 use attempts::Station;
 use floor::Floor;
 use register::Register;
 use register::StorageBox;
+use requests::Requests;
+use requests::Slot;
+
+// The answers of the boxes in a mask, each a yes or a no.
+fn answers(old: Requests, boxes: u8, ok: bool) -> Requests {
+    let mut q = old;
+    let mut b: u8 = 0;
+    while b < 8 {
+        if (boxes >> b) % 2 == 1 {
+            let slot = q.slots[b as usize];
+            let stage = slot.stage;
+            q.slots[b as usize] = Slot { stage, ok };
+        }
+        b += 1;
+    }
+    q
+}
+
+fn outranked(w: Row, boxes: u8) -> Row {
+    let old = w.read;
+    let read = answers(old, boxes, false);
+    let mut x = w;
+    x.read = read;
+    x
+}
 
 fn row(w: Row, r: [u8; 8]) -> Row {
-    let mut read = w.read;
+    let old = w.read;
+    let mut read = answers(old, r[3], true);
     read.heard = r[3] as u16;
     let mut write = w.write;
     write.heard = r[4] as u16;
@@ -68,6 +96,10 @@ pub(crate) fn change(mut f: Floor, r: [u8; 8]) -> Floor {
         }
         0xf2 => {
             f.boxes[(place % 9) as usize] = storage(r);
+        }
+        0xf7 => {
+            let a = (place % 64) as usize;
+            f.rows[a] = outranked(f.rows[a], r[2]);
         }
         _ => {
             f.stations[(place % 16) as usize] = station(r);

@@ -46,6 +46,13 @@ pub(crate) fn record(r: [u8; 8]) {
 
 // A change by hand.
 pub(crate) fn change(r: [u8; 8]) {
+    if r[0] == 0xf7 {
+        text::fill(
+            b"by hand: row %, read answers outranked by mask %",
+            &[r[1] as u64, r[2] as u64],
+        );
+        return;
+    }
     text::pick(
         b"by hand: boxes %, stations %, rows in use %\
         |by hand: row % of station %, read answers received by mask %, write answers by mask %\
