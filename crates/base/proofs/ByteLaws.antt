@@ -4,15 +4,22 @@ use mathlib.Core.List.{List, [], _∷_}
 use Prim.Native.Nat.{ℕ, zero, suc, _+_, _/_, _%_, _^_, _≤_, _<_}
 use native.Mathlib.Numerals.{towards-suc}
 use native.Mathlib.Omega.{arith}
-use lib.ListN.{length, getD, take, drop}
+use borrow.Author.Tests.{le-leb}
+use lib.Dec.{leb}
+use lib.ListN.{length, getD, take, drop, List·getD-eq-default}
 use lib.Seq.{drop-cons, length-sets, sets-eq}
+use Rattle.base.specs.Choice.{if_then_else_}
 use Rattle.base.specs.Bytes.{Bytes, word16, word32, bytes16, bytes32, wordAt, withWord}
+use Rattle.base.proofs.Choices.{chosen}
 
 -- ---- a list of bytes, place by place; past its end stands 0
 pub bytes-below : (s : List ℕ) → Bytes s → (i : ℕ) → getD s i 0 < 256
 bytes-below [] b i = omega arith
 bytes-below (x ∷ s) b zero = b .0
 bytes-below (x ∷ s) b (suc i) = bytes-below s (b .1) i
+
+pub past-end : (s : List ℕ) (p : ℕ) → length s ≤ p → 0 ≡ getD s p 0
+past-end s p h = sym (List·getD-eq-default s 0 h)
 
 -- ---- a number of two bytes
 -- any number is spelt by its bytes
@@ -54,6 +61,11 @@ bytes32-bytes x h = omega arith
 pub with-word-length : (s : List ℕ) (at x : ℕ) → at + 4 ≤ length s → length (withWord s at x) ≡ length s
 unfolding withWord
 with-word-length s at x h = ap length (sym (sets-eq (bytes32 x) s at h)) ∙ length-sets s at (bytes32 x)
+
+-- a number that a list has room for is stored
+pub word-stored : (s s′ : List ℕ) (at x : ℕ) → at + 4 ≤ length s → s′ ≡ (if leb (at + 4) (length s) then withWord s at x else s)
+    → (s′ ≡ withWord s at x) × (length s′ ≡ length s)
+word-stored s s′ at x h e = let g = chosen _ (le-leb _ _ h) e in (g, ap length g ∙ with-word-length s at x h)
 
 -- ---- the number whose four bytes stand at a place of a list of bytes
 module _ (s : List ℕ) (b : Bytes s) (at : ℕ) where

@@ -7,6 +7,7 @@ pub mod ByteLaws
 pub mod RecordLaws
 pub mod PartLaws
 pub mod PutLaws
+pub mod WritingLaws
 pub mod SizeLaws
 pub mod QuorumLaws
 pub mod MaskLaws

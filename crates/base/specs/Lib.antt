@@ -1,6 +1,7 @@
 pub mod Choice
 pub mod Numbers
 pub mod Bytes
+pub mod Writing
 pub mod Records
 pub mod Part
 pub mod Quorum

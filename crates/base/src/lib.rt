@@ -1,11 +1,18 @@
-// What several crates compute: big-endian numbers, the size of a quorum, and refusal 3.
+// What several crates compute: big-endian numbers, bytes at places of a slice, the size of a quorum, and refusal 3; and what their writers
+// answer.
 ghost use mathlib.Core.Path.{_≡_};
 ghost use Prim.Native.Nat.{_+_};
 ghost use lib.Dec.{leb};
-ghost use lib.ListN.{length};
+ghost use lib.ListN.{length, getD};
 ghost use Rattle.base.specs.Choice.{if_then_else_};
 ghost use Rattle.base.specs.Numbers.{sizesRight, quorum};
 ghost use Rattle.base.specs.Bytes.{word16, word32, bytes16, bytes32, wordAt, withWord, bytesPut};
+
+// What came of writing: the size of what was written, and the refusal. One of them is 0.
+pub struct Written {
+    pub size: usize,
+    pub refusal: u8,
+}
 
 // The number of two bytes, big-endian.
 pub fn be16(high: u8, low: u8) -> u16
@@ -37,6 +44,16 @@ pub fn split32(x: u32) -> [u8; 4]
         (x / 256 % 256) as u8,
         (x % 256) as u8,
     ]
+}
+
+// The byte at a place, 0 past the end.
+pub fn byte_at(s: &[u8], at: usize) -> u8
+    ensures { λ y. ⌜ y ≡ getD (now (s .entry)) at 0 ⌝ }
+{
+    if s.len() <= at {
+        return 0;
+    }
+    s[at]
 }
 
 // The number whose four bytes stand from a place on. Past the end nothing is read: 0.

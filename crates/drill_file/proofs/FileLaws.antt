@@ -7,7 +7,7 @@ use native.Mathlib.Numerals.{add-one}
 use native.Mathlib.Omega.{arith}
 use borrow.Author.Tests.{lt-ltb, le-ltb, eqb-true, eqb-false, eq-eqb, ne-eqb}
 use lib.Dec.{eqb}
-use lib.ListN.{length, getD, take, drop, drop-of-length-le, List·getD-eq-default}
+use lib.ListN.{length, getD, take, drop, drop-of-length-le}
 use lib.Seq.{drop-cons}
 use denote.Ref.{RefT}
 use Rattle.base.specs.Part.{IsPart}
@@ -18,10 +18,6 @@ use Rattle.drill_file.specs.DrillFile.{boxesOf, stationsOf, labelLength,
 use Rattle.drill_file.specs.declared.Header.{Header}
 use Rattle.drill_file.specs.declared.Header.the-variants.{Refused, Accepted}
 use Rattle.drill_file.proofs.TestLaws.{accepted-passed}
-
--- a byte past the end reads 0
-pub past-end : (s : List ℕ) (p : ℕ) → length s ≤ p → 0 ≡ getD s p 0
-past-end s p h = sym (List·getD-eq-default s 0 h)
 
 -- the bytes of a label, from place i on
 module _ (s : List ℕ) (i : ℕ) (e : wrongBytes (drop i s) ≡ wrongBytes s) where

@@ -4,7 +4,7 @@ use native.Mathlib.Omega.{arith}
 use mathlib.Core.Path.{_≡_, refl, sym, ap, _∙_}
 use mathlib.Core.Bool.{true, false, not}
 use mathlib.Core.List.{List, [], _∷_, _++_, flatten}
-use borrow.Author.Tests.{lt-ltb, le-ltb, ltb-true, ltb-false, eq-eqb, ne-eqb, not-false}
+use borrow.Author.Tests.{lt-ltb, le-ltb, ltb-true, ltb-false, not-false}
 use lib.Dec.{ltb}
 use lib.ListN.{length, getD, drop, length-append}
 use lib.Seq.{take-all}
@@ -13,10 +13,11 @@ use Rattle.base.specs.Choice.{if_then_else_}
 use Rattle.base.specs.Claims.{Sizes}
 use Rattle.base.specs.Records.{recordsIn}
 use Rattle.base.proofs.Cases.{by-cases}
-use Rattle.base.proofs.Choices.{on-true, on-false, both-false, passed}
+use Rattle.base.proofs.Choices.{on-false, both-false, passed}
 use Rattle.base.proofs.PutLaws.{three-put}
 use Rattle.base.proofs.RecordLaws.{record-length, records-length, record-nth, records-joined}
 use Rattle.base.proofs.SizeLaws.{sizes-mean, sizes-hold}
+use Rattle.base.proofs.WritingLaws.{no-size, buffer-kept, size-is, buffer-is}
 use Rattle.drill_file.specs.Claims.{Printable, FileParts, Writable}
 use Rattle.drill_file.specs.DrillFile.{wrongRun}
 use Rattle.drill_file.specs.Layout.{bodyOf, fileOf}
@@ -119,9 +120,7 @@ module _ (room : ℕ) (p : DrillParts) where
 module _ (b : List ℕ) (p : DrillParts) (k : ℕ) (e : k ≡ writeRefusal (length b) p) where
   pub refused-said : (k ≡ 0 → ⊥) → (k ≡ writeRefusal (length b) p) × ((0 ≡ writtenSize (length b) p) × (b ≡ writtenBuffer b p))
   unfolding writtenSize writtenBuffer
-  refused-said f =
-      let t = ne-eqb (writeRefusal (length b) p) 0 (λ z. f (e ∙ z)) in
-      (e, (on-false _ t refl, on-false _ t refl))
+  refused-said f = let r = rw e at f in (e, (sym (no-size _ (fileFrom p) b r), sym (buffer-kept _ (fileFrom p) b r)))
 
   pub written-said : k ≡ 0 → (first b₁ b₂ b₃ : List ℕ)
       → first ≡ bytes16 (6 + length (p .label) + length (p .run) - 2) ++ (1 ∷ p .boxes ∷ p .stations ∷ length (p .label) ∷ [])
@@ -131,10 +130,10 @@ module _ (b : List ℕ) (p : DrillParts) (k : ℕ) (e : k ≡ writeRefusal (leng
       → (k ≡ writeRefusal (length b) p) × ((6 + length (p .label) + length (p .run) ≡ writtenSize (length b) p) × (b₃ ≡ writtenBuffer b p))
   unfolding writtenSize writtenBuffer
   written-said z first b₁ b₂ b₃ f g₁ g₂ g₃ =
-      let w = unrefused (length b) p (sym e ∙ z) in
+      let none = sym e ∙ z in
+      let w = unrefused (length b) p none in
       let size = file-size p (w .whole) in
-      let t = eq-eqb (writeRefusal (length b) p) 0 (sym e ∙ z) in
       let six : length first ≡ 6 = ap length f in
       let runs = rw six at (three-put b first (p .label) (p .run) (omega (arith, w .fits))) in
       let file = ap (λ (h : List ℕ). h ++ p .label ++ p .run) f ∙ file-runs p (w .whole) in
-      (e, (on-true _ t (sym size), on-true _ t (rw (g₃, g₂, g₁, size) (runs ∙ ap (λ (s : List ℕ). s ++ drop (6 + length (p .label) + length (p .run)) b) file))))
+      (e, (sym (size-is _ (fileFrom p) b none ∙ size), rw (buffer-is _ (fileFrom p) b none, g₃, g₂, g₁, size) (runs ∙ ap (λ (s : List ℕ). s ++ drop (6 + length (p .label) + length (p .run)) b) file)))

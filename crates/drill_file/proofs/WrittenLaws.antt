@@ -1,15 +1,14 @@
 -- What the writer leaves in a buffer: read back it is the parts that were given, and an accepted file is written again as it was.
 use Prim.Native.Nat.{ℕ, _+_, _/_, _%_, _≤_, _<_}
-use native.Mathlib.Omega.{arith}
 use mathlib.Core.Path.{_≡_, refl, sym, ap, _∙_}
-use mathlib.Core.List.{List, _++_, flatten}
-use borrow.Author.Tests.{lt-ltb, eq-eqb, ne-eqb}
-use lib.ListN.{length, drop, length-append, length-drop}
-use lib.Seq.{take-append-seam, drop-append-seam}
+use mathlib.Core.List.{List, flatten}
+use borrow.Author.Tests.{lt-ltb}
+use lib.ListN.{length, drop}
 use Rattle.base.specs.Bytes.{Bytes}
 use Rattle.base.specs.Records.{recordsIn}
-use Rattle.base.proofs.Choices.{on-true, on-false}
+use Rattle.base.proofs.Choices.{on-true}
 use Rattle.base.proofs.RecordLaws.{records-length}
+use Rattle.base.proofs.WritingLaws.{no-size, buffer-kept, size-is, buffer-is, bytes-stand, behind-kept, room-kept}
 use Rattle.drill_file.specs.Claims.{FileParts, partsOf, fileIn, Filled, Untouched, ReadBack, WrittenAgain}
 use Rattle.drill_file.specs.DrillFile.{boxesOf, stationsOf, labelOf, recordsStart, fileRefusal, headerOf, recordsOf}
 use Rattle.drill_file.specs.Layout.{bodyOf, fileOf}
@@ -21,32 +20,23 @@ use Rattle.drill_file.proofs.WriterLaws.{run-joined, file-size, unrefus
 -- a refused buffer
 pub left-untouched : (b : List ℕ) (p : DrillParts) → ¬ (writeRefusal (length b) p ≡ 0) → Untouched b p
 unfolding writtenSize writtenBuffer
-left-untouched b p f =
-    let t = ne-eqb (writeRefusal (length b) p) 0 f in
-    record { size = sym (on-false _ t refl); kept = sym (on-false _ t refl) }
+left-untouched b p f = record { size = no-size _ (fileFrom p) b f; kept = buffer-kept _ (fileFrom p) b f }
 
 -- a buffer that is filled
 module _ (b : List ℕ) (p : DrillParts) (e : writeRefusal (length b) p ≡ 0) where
-  size-is : writtenSize (length b) p ≡ length (fileFrom p)
-  unfolding writtenSize
-  size-is = sym (on-true _ (eq-eqb (writeRefusal (length b) p) 0 e) refl)
-
-  buffer-is : writtenBuffer b p ≡ fileFrom p ++ drop (length (fileFrom p)) b
-  unfolding writtenBuffer
-  buffer-is = sym (on-true _ (eq-eqb (writeRefusal (length b) p) 0 e) refl)
-
   file-is : fileIn b p ≡ fileFrom p
-  file-is = rw (size-is, buffer-is) (take-append-seam (fileFrom p) (drop (length (fileFrom p)) b))
+  unfolding writtenSize writtenBuffer
+  file-is = bytes-stand _ (fileFrom p) b e
 
   pub left-filled : Filled b p
+  unfolding writtenSize writtenBuffer
   left-filled =
       let w = unrefused (length b) p e in
-      let rest = length-drop (length (fileFrom p)) b in
       record {
-        size = size-is ∙ file-size p (w .whole);
+        size = size-is _ (fileFrom p) b e ∙ file-size p (w .whole);
         file = file-is;
-        behind = rw (size-is, buffer-is) (drop-append-seam (fileFrom p) (drop (length (fileFrom p)) b));
-        room = rw (buffer-is, length-append (fileFrom p) (drop (length (fileFrom p)) b)) (omega (arith, rest, w .fits));
+        behind = behind-kept _ (fileFrom p) b e;
+        room = room-kept _ (fileFrom p) b e (w .fits);
       }
 
 -- the file of parts that a file may have, read
@@ -103,12 +93,13 @@ module _ (s b : List ℕ) (bytes : Bytes s) (e : fileRefusal s ≡ 0) where
   taken-parts = rw (rest-records s) (accepted-parts s e)
 
   pub writes-again : length s ≤ length b → WrittenAgain b s
+  unfolding writtenSize writtenBuffer
   writes-again h =
       let accepted = refused-none (length b) (partsOf s) (record { parts = taken-parts; whole = rest-whole s e; fits = rw taken-file h }) in
       record {
         accepted = accepted;
-        size = size-is b (partsOf s) accepted ∙ ap length taken-file;
-        same = buffer-is b (partsOf s) accepted ∙ rw taken-file;
+        size = size-is _ (fileFrom (partsOf s)) b accepted ∙ ap length taken-file;
+        same = buffer-is _ (fileFrom (partsOf s)) b accepted ∙ rw taken-file;
       }
 
   pub writes-short : length b < length s → writeRefusal (length b) (partsOf s) ≡ 18

@@ -1,12 +1,13 @@
 -- Document 02, wish 1: "from n, m, a label and a run of 8-byte records, a writer fills a lent buffer with the file and returns its size".
 use Prim.Native.Nat.{ℕ}
 use mathlib.Core.Bool.{Bool, true, not}
-use mathlib.Core.List.{List, _++_}
-use lib.Dec.{eqb, ltb}
-use lib.ListN.{length, drop}
+use mathlib.Core.List.{List}
+use lib.Dec.{ltb}
+use lib.ListN.{length}
 use Rattle.base.specs.Choice.{if_then_else_}
 use Rattle.base.specs.Numbers.{sizesRight}
 use Rattle.base.specs.Records.{recordsIn}
+use Rattle.base.specs.Writing.{sizeWritten, bufferWritten}
 use Rattle.drill_file.specs.DrillFile.{wrongBytes, wrongLength, wrongRun}
 use Rattle.drill_file.specs.Layout.{fileOf}
 
@@ -39,10 +40,8 @@ writeRefusal room p =
 
 -- "and returns its size"; 0 where nothing is written
 unfoldable pub writtenSize : (room : ℕ) (p : DrillParts) → ℕ
-writtenSize room p = if eqb (writeRefusal room p) 0 then length (fileFrom p) else 0
+writtenSize room p = sizeWritten (writeRefusal room p) (fileFrom p)
 
 -- "fills a lent buffer with the file .. Bytes behind the file, and a refused buffer, are untouched"
 unfoldable pub writtenBuffer : (buffer : List ℕ) (p : DrillParts) → List ℕ
-writtenBuffer buffer p =
-    if eqb (writeRefusal (length buffer) p) 0 then fileFrom p ++ drop (length (fileFrom p)) buffer
-    else buffer
+writtenBuffer buffer p = bufferWritten (writeRefusal (length buffer) p) (fileFrom p) buffer

@@ -1,12 +1,11 @@
 // The drill file: its header, its label and its records (document 01, "The drill file" and the refusals 1 to 5), and the writer.
 ghost use mathlib.Core.Path.{_≡_};
-ghost use lib.ListN.{length, getD};
+ghost use lib.ListN.{length};
 ghost use Rattle.base.specs.Part.{IsPart};
 ghost use Rattle.drill_file.specs.DrillFile.{recordsStart, afterLabel, wrongSize, wrongVersion, wrongFloor, wrongByte, wrongBytes, wrongLength, wrongLabel, wrongRun, wrongRecords, fileRefusal, headerOf, headerRefusal, headerValues, fileValues, labelOf, labelStart};
 
 mod writer;
 
-pub use writer::Written;
 pub use writer::drill_write;
 pub use writer::write_file;
 
@@ -27,21 +26,11 @@ fn wide(x: u8) -> usize
     x as usize
 }
 
-// The byte at a place, 0 past the end.
-fn byte_at(file: &[u8], at: usize) -> u8
-    ensures { λ y. ⌜ y ≡ getD (now (file .entry)) at 0 ⌝ }
-{
-    if file.len() <= at {
-        return 0;
-    }
-    file[at]
-}
-
 // Where the records start: behind the label.
 fn records_start(file: &[u8]) -> usize
     ensures { λ y. ⌜ y ≡ recordsStart (now (file .entry)) ⌝ }
 {
-    6 + wide(byte_at(file, 5))
+    6 + wide(base::byte_at(file, 5))
 }
 
 // How many bytes follow the label.
@@ -66,21 +55,21 @@ fn wrong_size(file: &[u8]) -> bool
     if 32806 < size {
         return true;
     }
-    base::be16(byte_at(file, 0), byte_at(file, 1)) as usize != size - 2
+    base::be16(base::byte_at(file, 0), base::byte_at(file, 1)) as usize != size - 2
 }
 
 // Refusal 2.
 fn wrong_version(file: &[u8]) -> bool
     ensures { λ y. ⌜ y ≡ wrongVersion (now (file .entry)) ⌝ }
 {
-    byte_at(file, 2) != 1
+    base::byte_at(file, 2) != 1
 }
 
 // Refusal 3.
 fn wrong_floor(file: &[u8]) -> bool
     ensures { λ y. ⌜ y ≡ wrongFloor (now (file .entry)) ⌝ }
 {
-    !base::sizes_right(byte_at(file, 3), byte_at(file, 4))
+    !base::sizes_right(base::byte_at(file, 3), base::byte_at(file, 4))
 }
 
 fn wrong_byte(b: u8) -> bool
@@ -120,7 +109,7 @@ fn wrong_length(k: usize) -> bool
 fn wrong_label(file: &[u8]) -> bool
     ensures { λ y. ⌜ y ≡ wrongLabel (now (file .entry)) ⌝ }
 {
-    if wrong_length(wide(byte_at(file, 5))) {
+    if wrong_length(wide(base::byte_at(file, 5))) {
         return true;
     }
     let end = records_start(file);
@@ -180,8 +169,8 @@ pub fn read_header(file: &[u8]) -> Header
         return Header::Refused(refusal);
     }
     Header::Accepted {
-        n: byte_at(file, 3),
-        m: byte_at(file, 4),
+        n: base::byte_at(file, 3),
+        m: base::byte_at(file, 4),
         start: records_start(file),
         count: after_label(file) / 8,
     }

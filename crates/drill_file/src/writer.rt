@@ -1,4 +1,5 @@
 // The writer: a drill file from its parts, in a lent buffer (document 02, wish 1).
+use base::Written;
 ghost use mathlib.Core.Path.{_≡_};
 ghost use mathlib.Core.List.{[], _∷_, _++_};
 ghost use Prim.Native.Nat.{_+_, _-_, _≤_, _<_};
@@ -8,12 +9,6 @@ ghost use mathlib.Core.Bool.{not};
 ghost use Rattle.base.specs.Numbers.{sizesRight};
 ghost use Rattle.base.specs.Bytes.{bytes16};
 ghost use Rattle.drill_file.specs.Writer.{partsGiven, wrongText, writeRefusal, writtenSize, writtenBuffer};
-
-// What came of it: the size of the file, and the refusal. One of them is 0.
-pub struct Written {
-    pub size: usize,
-    pub refusal: u8,
-}
 
 // Refusal 3.
 fn wrong_sizes(n: u8, m: u8) -> bool
