@@ -1,10 +1,13 @@
--- The chain from a box record in C to the floor: the C call on a register's bytes, and the accepted serve that does the same.
-use Prim.Native.Nat.{ℕ, suc, _<_}
+-- The chain from a box record in C, and from a frame, to the floor: the C calls on a register's bytes, and the accepted serve that does the
+-- same.
+use Prim.Native.Nat.{ℕ, suc, _≤_, _<_}
 use native.Mathlib.Omega.{arith}
 use mathlib.Core.Path.{_≡_, refl, sym, ap, subst, _∙_}
 use mathlib.Core.Bool.{Bool, true, false}
-use mathlib.Core.List.{List, []}
-use lib.ListN.{length, getD}
+use mathlib.Core.List.{List, [], _++_}
+use borrow.Author.Tests.{le-ltb, ne-eqb}
+use lib.Dec.{ltb}
+use lib.ListN.{length, getD, drop}
 use lib.Seq.{getD-set-same}
 use Rattle.base.specs.Choice.{if_then_else_}
 use Rattle.base.specs.Bytes.{Bytes}
@@ -16,10 +19,18 @@ use Rattle.register.specs.declared.StorageBox.{StorageBox}
 use Rattle.register.specs.declared.ReadDone.{ReadDone}
 use Rattle.register.specs.declared.WriteDone.{WriteDone}
 use Rattle.register.proofs.RegisterLaws.{outranked-kept, write-refused, write-answers}
+use Rattle.frames.specs.Claims.{ReadAs}
+use Rattle.frames.specs.Messages.{kindOf, frameOf}
+use Rattle.frames.specs.declared.Message.{Message}
+use Rattle.frames.specs.declared.Message.the-variants.{ReadRequest, WriteRequest}
+use Rattle.frames.proofs.MessageLaws.{fields-few, frame-size}
+use Rattle.frames.proofs.FrameLaws.{frame-back}
+use Rattle.firmware.specs.Serve.{answerToRead, answerToWrite, serveAnswer, recordAfterServe, bufferAfterServe}
+use Rattle.firmware.proofs.ServeLaws.{says-read-room, says-write-room, serves-read, serves-write}
 use Rattle.firmware.specs.Firmware.{encode, decode, replyOf, readAnswer, recordAfterRead, replyAfterRead, writeAnswer, recordAfterWrite}
 use Rattle.firmware.proofs.BoxRecordLaws.{decode-encode, encode-length, encode-bytes}
 use Rattle.firmware.proofs.CallLaws.{read-0, read-100, read-record, read-kept, read-reply, write-0, write-100, write-record, write-kept}
-use Rattle.requests.specs.Requests.{slot0, slotAt}
+use Rattle.requests.specs.Requests.{slot0, slotAt, ofPhase}
 use Rattle.requests.specs.declared.Phase.{Phase}
 use Rattle.requests.specs.declared.Phase.the-variants.{Read, Write}
 use Rattle.requests.specs.declared.Slot.{Slot}
@@ -42,7 +53,7 @@ use Rattle.floor.proofs.Keeps.{new-sound}
 use Rattle.base.proofs.Cases.{clash}
 use Rattle.agreement.specs.Words.{commandAt}
 use Rattle.agreement.specs.Demand.{firstFloor}
-use Rattle.agreement.specs.Chain.{bytesAt, answerAt, InC, ServedInC, Chain}
+use Rattle.agreement.specs.Chain.{bytesAt, answerAt, InC, requestAt, answeredAt, FramedInC, ServedInC, Chain}
 use Rattle.agreement.proofs.History.{isIssued}
 use Rattle.agreement.proofs.Reach.{New, new-floor}
 use Rattle.agreement.proofs.Positions.{reached-at, means-at}
@@ -107,6 +118,33 @@ module _ (x : Register) (r : ℕ) (n : ¬ (r ≡ 0)) where
           changes = sym (write-kept (encode x) r v 100 refl e) ∙ ap (λ (y : WriteDone). encode (y .register)) (sym (write-refused x r v (sym (write-answers x r v) ∙ t)));
         }
 
+-- a request's frame served on the 12 bytes of a register: what the routine by value gives, `after` and the answer
+record Framed (x : Register) (request : Message) (after : Register) (answer : Message) (behind buffer : List ℕ) : Type 0 where
+  returns : serveAnswer (encode x) (frameOf request ++ behind) (length buffer) ≡ 0
+  changes : recordAfterServe (encode x) (frameOf request ++ behind) (length buffer) ≡ encode after
+  answers : ReadAs (bufferAfterServe (encode x) (frameOf request ++ behind) buffer) answer (drop (length (frameOf answer)) buffer)
+
+-- a buffer of 12 bytes has room for any message
+room : (m : Message) (k : ℕ) → 12 ≤ k → ltb k (length (frameOf m)) ≡ false
+room m k h = le-ltb k (length (frameOf m)) (omega (arith, frame-size m, fields-few (kindOf m)))
+
+module _ (x : Register) (r : ℕ) (n : ¬ (r ≡ 0)) (behind buffer : List ℕ) (h : 12 ≤ length buffer) where
+  read-framed : Framed x (ReadRequest r) (rmwRead x r .register) (answerToRead (rmwRead x r)) behind buffer
+  read-framed =
+      let input = frameOf (ReadRequest r) ++ behind in
+      let e = frame-back (ReadRequest r) behind (ne-eqb r 0 n) .message in
+      let none = says-read-room (encode x) input r e (length buffer) (encode-length x) ∙ sym (on-false _ (room (answerToRead (rmwRead (decode (encode x)) r)) (length buffer) h) refl) in
+      let a = rw (decode-encode x) at (serves-read (encode x) input r e buffer none) in
+      record { returns = none; changes = a .leaves; answers = a .frame }
+
+  write-framed : (v : ℕ) → ¬ (v ≡ 0) → Framed x (WriteRequest r v) (rmwWrite x r v .register) (answerToWrite (rmwWrite x r v)) behind buffer
+  write-framed v m =
+      let input = frameOf (WriteRequest r v) ++ behind in
+      let e = frame-back (WriteRequest r v) behind (sym (on-false _ (ne-eqb r 0 n) (sym (ne-eqb v 0 m)))) .message in
+      let none = says-write-room (encode x) input r v e (length buffer) (encode-length x) ∙ sym (on-false _ (room (answerToWrite (rmwWrite (decode (encode x)) r v)) (length buffer) h) refl) in
+      let a = rw (decode-encode x) at (serves-write (encode x) input r v e buffer none) in
+      record { returns = none; changes = a .leaves; answers = a .frame }
+
 -- an accepted serve says served
 says-served : {f : Floor} {y : Stepped} (p : Phase) (a b : ℕ) → StepCase f (Serve p a b) y → isRefused (y .outcome) ≡ false → y .outcome ≡ said.Served a
 says-served p a b (turned k t) e = clash refl e
@@ -137,35 +175,65 @@ module _ (f : Floor) (l : List (List ℕ)) (new : New f) (z : Sound f) (a i : �
   row-place : a < 64
   row-place = omega (arith, x .may .used, sound-at f l new z i .rows-most)
 
+  -- a read: the box's next register, the answer then on the way, and whether that is a yes
+  module _ (q : x .phase ≡ Read) where
+    read-register : boxAt (floorAt f l (suc i)) b .register ≡ rmwRead held (w .rank) .register
+    read-register = ap (λ (y : StorageBox). y .register) (x .storage) ∙ ap (λ (p : Phase). registerServed p w held) q
+
+    read-answer : answerAt f l a b (suc i) ≡ answerOf (rmwRead held (w .rank))
+    read-answer =
+        ap (λ (v : Row). getD (v .answers) b answer0) (x .row) ∙ ap (λ (p : Phase). getD (rowServed p w held b .answers) b answer0) q
+        ∙ getD-set-same (w .answers) b _ answer0 (omega (arith, place, reached-at f l new i .lengths .answers a row-place))
+
+    read-ok : slotAt (rowAt (floorAt f l (suc i)) a .read) b .ok ≡ isHeld (rmwRead held (w .rank) .answer)
+    read-ok =
+        ap (λ (v : Row). slotAt (v .read) b .ok) (x .row) ∙ ap (λ (p : Phase). slotAt (rowServed p w held b .read) b .ok) q
+        ∙ ap (λ (v : Slot). v .ok) (getD-set-same (w .read .slots) b _ slot0 (omega (arith, place, reached-at f l new i .lengths .slots Read a row-place)))
+
+  -- the same of a write, whose revision is not 0
+  module _ (q : x .phase ≡ Write) where
+    write-register : boxAt (floorAt f l (suc i)) b .register ≡ rmwWrite held (w .rank) (w .written) .register
+    write-register = ap (λ (y : StorageBox). y .register) (x .storage) ∙ ap (λ (p : Phase). registerServed p w held) q
+
+    write-ok : slotAt (rowAt (floorAt f l (suc i)) a .write) b .ok ≡ rmwWrite held (w .rank) (w .written) .taken
+    write-ok =
+        ap (λ (v : Row). slotAt (v .write) b .ok) (x .row) ∙ ap (λ (p : Phase). slotAt (rowServed p w held b .write) b .ok) q
+        ∙ ap (λ (v : Slot). v .ok) (getD-set-same (w .write .slots) b _ slot0 (omega (arith, place, reached-at f l new i .lengths .slots Write a row-place)))
+
+    written-positive : ¬ (w .written ≡ 0)
+    written-positive u =
+        let waits = subst (λ (p : Phase). CanServe g p a b) q (x .may) .waits in
+        let issued = reached-at f l new i .shows .rows a (x .may .used) .writes .after-issue b (ap isIssued (waits-means (slotAt (w .write) b .stage) (w .write .heard) b waits .0)) in
+        omega (arith, issued, u)
+
   call : (p : Phase) → x .phase ≡ p → InC f l p (w .rank) a b i
   call Read q = λ reply h.
-      let s : boxAt (floorAt f l (suc i)) b .register ≡ rmwRead held (w .rank) .register =
-      ap (λ (y : StorageBox). y .register) (x .storage) ∙ ap (λ (p : Phase). registerServed p w held) q in
-      let y : answerAt f l a b (suc i) ≡ answerOf (rmwRead held (w .rank)) =
-      ap (λ (v : Row). getD (v .answers) b answer0) (x .row) ∙ ap (λ (p : Phase). getD (rowServed p w held b .answers) b answer0) q
-      ∙ getD-set-same (w .answers) b _ answer0 (omega (arith, place, reached-at f l new i .lengths .answers a row-place)) in
-      let t : slotAt (rowAt (floorAt f l (suc i)) a .read) b .ok ≡ isHeld (rmwRead held (w .rank) .answer) =
-      ap (λ (v : Row). slotAt (v .read) b .ok) (x .row) ∙ ap (λ (p : Phase). slotAt (rowServed p w held b .read) b .ok) q
-      ∙ ap (λ (v : Slot). v .ok) (getD-set-same (w .read .slots) b _ slot0 (omega (arith, place, reached-at f l new i .lengths .slots Read a row-place))) in
       let c = asked held (w .rank) rank-positive reply h _ refl in
       record {
-        returns = c .returns ∙ ap (λ (u : Bool). if u then 0 else 100) (sym t);
-        changes = c .changes ∙ ap encode (sym s);
-        answers = read-answers held (w .rank) rank-positive reply h ∙ ap (λ (v : Answer). replyOf (v .rank) (v .value)) (sym y);
+        returns = c .returns ∙ ap (λ (u : Bool). if u then 0 else 100) (sym (read-ok q));
+        changes = c .changes ∙ ap encode (sym (read-register q));
+        answers = read-answers held (w .rank) rank-positive reply h ∙ ap (λ (v : Answer). replyOf (v .rank) (v .value)) (sym (read-answer q));
       }
   call Write q =
-      let s : boxAt (floorAt f l (suc i)) b .register ≡ rmwWrite held (w .rank) (w .written) .register =
-      ap (λ (y : StorageBox). y .register) (x .storage) ∙ ap (λ (p : Phase). registerServed p w held) q in
-      let y : slotAt (rowAt (floorAt f l (suc i)) a .write) b .ok ≡ rmwWrite held (w .rank) (w .written) .taken =
-      ap (λ (v : Row). slotAt (v .write) b .ok) (x .row) ∙ ap (λ (p : Phase). slotAt (rowServed p w held b .write) b .ok) q
-      ∙ ap (λ (v : Slot). v .ok) (getD-set-same (w .write .slots) b _ slot0 (omega (arith, place, reached-at f l new i .lengths .slots Write a row-place))) in
-      let waits = subst (λ (p : Phase). CanServe g p a b) q (x .may) .waits in
-      let issued = reached-at f l new i .shows .rows a (x .may .used) .writes .after-issue b (ap isIssued (waits-means (slotAt (w .write) b .stage) (w .write .heard) b waits .0)) in
-      let c = called held (w .rank) rank-positive (w .written) (λ u. omega (arith, issued, u)) _ refl in
+      let c = called held (w .rank) rank-positive (w .written) (written-positive q) _ refl in
       record {
-        returns = c .returns ∙ ap (λ (t : Bool). if t then 0 else 100) (sym y);
-        changes = c .changes ∙ ap encode (sym s);
+        returns = c .returns ∙ ap (λ (t : Bool). if t then 0 else 100) (sym (write-ok q));
+        changes = c .changes ∙ ap encode (sym (write-register q));
       }
+
+  -- the answer on the way, as a message
+  said-answer : (p : Phase) → x .phase ≡ p → answeredAt f l p a b (suc i) ≡ ofPhase p (answerToRead (rmwRead held (w .rank))) (answerToWrite (rmwWrite held (w .rank) (w .written)))
+  unfolding answerToRead answerToWrite
+  said-answer Read q = rw (read-ok q, read-answer q)
+  said-answer Write q = rw (write-ok q)
+
+  framed : (p : Phase) → x .phase ≡ p → (behind buffer : List ℕ) → 12 ≤ length buffer → FramedInC f l (requestAt f l p (w .rank) a i) (answeredAt f l p a b (suc i)) b i behind buffer
+  framed Read q behind buffer h =
+      let c = read-framed held (w .rank) rank-positive behind buffer h in
+      rw (said-answer Read q) (record { returns = c .returns; changes = c .changes ∙ ap encode (sym (read-register q)); answers = c .answers })
+  framed Write q behind buffer h =
+      let c = write-framed held (w .rank) rank-positive behind buffer h (w .written) (written-positive q) in
+      rw (said-answer Write q) (record { returns = c .returns; changes = c .changes ∙ ap encode (sym (write-register q)); answers = c .answers })
 
   bytes : FloorFits f → (k : ℕ) → AllRecords l → Bytes (bytesAt f l b k)
   bytes fits k y = encode-bytes _ (fits-at f l fits y k .boxes b)
@@ -175,6 +243,7 @@ module _ (f : Floor) (l : List (List ℕ)) (new : New f) (z : Sound f) (a i : �
     rank = w .rank;
     served = served-at f l new i (w .rank) b (record { attempt = a; used = x .may .used; rank = refl; phase = x .phase; asked = x .command; accepted = e });
     call = call (x .phase) refl;
+    framed = framed (x .phase) refl;
     bytes = λ y. (bytes fits i y, bytes fits (suc i) y);
   }
 

@@ -1,15 +1,20 @@
--- The chain from a box record in C to the floor of demand 3, in one statement: on every floor that a list reaches, an accepted serve
--- changes the box's record, written as its 12 bytes, as the C call changes them, and its answer is the C call's. The proof is `chain` in
--- proofs/Chain.
-use Prim.Native.Nat.{ℕ, suc}
+-- The chain from a box record in C, and from a frame on the wire, to the floor of demand 3, in one statement: on every floor that a list
+-- reaches, an accepted serve changes the box's record, written as its 12 bytes, as the C calls change them, and its answer is theirs. The
+-- proof is `chain` in proofs/Chain.
+use Prim.Native.Nat.{ℕ, suc, _≤_}
 use mathlib.Core.Path.{_≡_}
 use mathlib.Core.Bool.{false}
-use mathlib.Core.List.{List}
-use lib.ListN.{length, getD}
+use mathlib.Core.List.{List, _++_}
+use lib.ListN.{length, getD, drop}
 use Rattle.base.specs.Choice.{if_then_else_}
 use Rattle.base.specs.Bytes.{Bytes}
 use Rattle.base.specs.Records.{AllRecords}
+use Rattle.frames.specs.Claims.{ReadAs}
+use Rattle.frames.specs.Messages.{frameOf}
+use Rattle.frames.specs.declared.Message.{Message}
+use Rattle.frames.specs.declared.Message.the-variants.{ReadRequest, WriteRequest, ReadAnswer, Outranked, Taken, NotTaken}
 use Rattle.firmware.specs.Firmware.{encode, replyOf, readAnswer, recordAfterRead, replyAfterRead, writeAnswer, recordAfterWrite}
+use Rattle.firmware.specs.Serve.{serveAnswer, recordAfterServe, bufferAfterServe}
 use Rattle.requests.specs.Requests.{slotAt}
 use Rattle.requests.specs.declared.Phase.{Phase}
 use Rattle.requests.specs.declared.Phase.the-variants.{Read, Write}
@@ -49,11 +54,28 @@ module _ (f : Floor) (l : List (List ℕ)) where
   InC Read r a b i = (reply : List ℕ) → length reply ≡ 8 → ReadInC r a b i reply
   InC Write r a b i = WriteInC r a b i
 
+  -- the request that the serve at i serves, and the answer that is then on the way, as messages
+  abbrev pub requestAt : (phase : Phase) (r a i : ℕ) → Message
+  requestAt Read r a i = ReadRequest r
+  requestAt Write r a i = WriteRequest r (rowAt (floorAt f l i) a .written)
+
+  abbrev pub answeredAt : (phase : Phase) (a b i : ℕ) → Message
+  answeredAt Read a b i = if slotAt (rowAt (floorAt f l i) a .read) b .ok then ReadAnswer (answerAt a b i .rank) (answerAt a b i .value) else Outranked
+  answeredAt Write a b i = if slotAt (rowAt (floorAt f l i) a .write) b .ok then Taken else NotTaken
+
+  -- The request's frame handed to `box_serve`, with anything behind it: the call leaves the box's next record, and in the buffer a frame that
+  -- is read as the answer; behind that stands what stood there.
+  pub record FramedInC (request answer : Message) (b i : ℕ) (behind buffer : List ℕ) : Type 0 where
+    pub returns : serveAnswer (bytesAt b i) (frameOf request ++ behind) (length buffer) ≡ 0
+    pub changes : recordAfterServe (bytesAt b i) (frameOf request ++ behind) (length buffer) ≡ bytesAt b (suc i)
+    pub answers : ReadAs (bufferAfterServe (bytesAt b i) (frameOf request ++ behind) buffer) answer (drop (length (frameOf answer)) buffer)
+
   -- the accepted serve at i, with the rank of its attempt
   pub record ServedInC (phase : Phase) (a b i : ℕ) : Type 0 where
     pub rank : ℕ
     pub served : ServedAt f l rank b i
     pub call : InC phase rank a b i
+    pub framed : (behind buffer : List ℕ) → 12 ≤ length buffer → FramedInC (requestAt phase rank a i) (answeredAt phase a b (suc i)) b i behind buffer
     -- where the list's records are of 8 bytes each, the box's record before and after is 12 bytes
     pub bytes : AllRecords l → Bytes (bytesAt b i) × Bytes (bytesAt b (suc i))
 

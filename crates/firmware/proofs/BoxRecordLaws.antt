@@ -10,7 +10,7 @@ use borrow.Author.Tests.{le-leb}
 use Rattle.base.specs.Choice.{if_then_else_}
 use Rattle.base.proofs.Choices.{chosen}
 use Rattle.base.specs.Bytes.{Bytes, bytes32, wordAt, withWord}
-use Rattle.base.proofs.ByteLaws.{word32-of-bytes, with-word-length, word-at-fits, word-at-bytes}
+use Rattle.base.proofs.ByteLaws.{word32-of-bytes, word-stored, word-at-fits, word-at-bytes}
 use Rattle.register.specs.declared.Register.{Register}
 use Rattle.firmware.specs.Firmware.{encode, decode, replyOf}
 use Rattle.firmware.specs.Claims.{Fits32}
@@ -18,13 +18,9 @@ use Rattle.firmware.specs.Claims.{Fits32}
 same-register : {x : Register} {a b c : ℕ} → a ≡ x .read → b ≡ x .write → c ≡ x .value → record { read = a; write = b; value = c } ≡ x
 same-register e f g = rw (e, f, g)
 
--- a word that the bytes have room for is read, and stored
+-- a word that the bytes have room for is read
 word-read : (s : List ℕ) (at : ℕ) {y : ℕ} → at + 4 ≤ length s → y ≡ (if leb (at + 4) (length s) then wordAt s at else 0) → y ≡ wordAt s at
 word-read s at h e = chosen _ (le-leb _ _ h) e
-
-word-stored : (s s′ : List ℕ) (at x : ℕ) → at + 4 ≤ length s → s′ ≡ (if leb (at + 4) (length s) then withWord s at x else s)
-    → (s′ ≡ withWord s at x) × (length s′ ≡ length s)
-word-stored s s′ at x h e = let g = chosen _ (le-leb _ _ h) e in (g, ap length g ∙ with-word-length s at x h)
 
 -- three words that were read are the decoded register
 pub decode-words : (s : List ℕ) {a b c : ℕ} → length s ≡ 12

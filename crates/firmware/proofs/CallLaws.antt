@@ -23,10 +23,10 @@ use Rattle.firmware.specs.Claims.{Fits32}
 use Rattle.firmware.proofs.BoxRecordLaws.{decode-encode, encode-bytes, decode-fits}
 
 -- the tests of the refusals: a length that is this number, or another; of two tests one holds, or none
-this : (x k : ℕ) → x ≡ k → not (eqb x k) ≡ false
+pub this : (x k : ℕ) → x ≡ k → not (eqb x k) ≡ false
 this x k e = ap not (eq-eqb x k e)
 
-other : (x k : ℕ) → (x ≡ k → ⊥) → not (eqb x k) ≡ true
+pub other : (x k : ℕ) → (x ≡ k → ⊥) → not (eqb x k) ≡ true
 other x k n = ap not (ne-eqb x k n)
 
 either : (t u : Bool) → (t ≡ true) ⊎ (u ≡ true) → (t || u) ≡ true

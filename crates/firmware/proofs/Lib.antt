@@ -1,3 +1,5 @@
 pub mod BoxRecordLaws
 pub mod CallLaws
+pub mod WireLaws
+pub mod ServeLaws
 pub mod Claims

@@ -1,2 +1,4 @@
 pub mod Firmware
+pub mod Wire
+pub mod Serve
 pub mod Claims

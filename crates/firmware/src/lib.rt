@@ -1,5 +1,7 @@
 // The box routine as box firmware in C calls it: document 01's section "The box routine" and wish 2 of document 02, on a record of 12
-// bytes. The routine itself is crate `register`'s, which the floor runs too; here are the bytes, the answers and the refusals.
+// bytes. The routine itself is crate `register`'s, which the floor runs too; here are the bytes, the answers and the refusals. Beside it the
+// frames of crate `frames` for C, and the call that serves a request (wish 3).
+use frames::Message;
 use register::ReadAnswer;
 use register::Register;
 use register::rmw_read;
@@ -7,6 +9,19 @@ use register::rmw_write;
 ghost use mathlib.Core.Path.{_≡_};
 ghost use lib.ListN.{length};
 ghost use Rattle.firmware.specs.Firmware.{decode, encode, replyOf, readAnswer, recordAfterRead, replyAfterRead, writeAnswer, recordAfterWrite};
+
+mod serve;
+mod wire;
+
+pub use serve::box_serve;
+pub use wire::frame_read;
+pub use wire::frame_write;
+
+// What comes of a request: the refusal, or the register after the routine and the answer.
+pub enum Serving {
+    TurnedAway(u8),
+    Served(Register, Message),
+}
 
 // ---- The record of 12 bytes and the reply of 8
 

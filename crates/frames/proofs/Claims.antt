@@ -1,0 +1,31 @@
+-- The claims on frames, proved.
+use Rattle.frames.specs.Claims.{FrameClaims}
+use Rattle.frames.proofs.MessageLaws.{frame-size}
+use Rattle.frames.proofs.ReaderLaws.{gives-19, gives-20, gives-message}
+use Rattle.frames.proofs.FrameLaws.{frame-apart, frame-begins, frame-bytes, formed-unknown, formed-named, frame-zero, frame-back, accepted-exactly, accepted-right, stream-read, stream-is, write-means, write-holds, left-filled, left-untouched, written-back, writes-again, writes-short}
+
+pub frame-claims : FrameClaims
+frame-claims = record {
+  apart = frame-apart;
+  begins = frame-begins;
+  size = frame-size;
+  bytes = frame-bytes;
+  gives-19 = gives-19;
+  gives-20 = gives-20;
+  gives-message = gives-message;
+  unknown = formed-unknown;
+  named = formed-named;
+  zero = frame-zero;
+  back = frame-back;
+  exactly = λ s m b. accepted-exactly s b m;
+  right = accepted-right;
+  stream = stream-read;
+  streamed = stream-is;
+  writable = write-means;
+  writes = write-holds;
+  filled = left-filled;
+  untouched = left-untouched;
+  written-back = λ b m t e. written-back b m e t;
+  again = writes-again;
+  short = writes-short;
+}

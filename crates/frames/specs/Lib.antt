@@ -1,0 +1,4 @@
+pub mod Messages
+pub mod Reader
+pub mod Writer
+pub mod Claims
