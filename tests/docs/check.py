@@ -7,13 +7,14 @@
   comments; so are the names behind it in "(`path`, `a`)", and the calls in the table of calls. Code behind it, "(path), `last: u16`",
   stands there as it is, and so does a quotation: path, "text".
 - The list of definitions has the right files, stars, line counts and sums.
+- The lines of the box on a socket that docs/BOX-MAKERS.md shows are those of the program.
 """
 import re
 import sys
 from rests_on import TOP, WORD, believed, in_order
 
 GUARANTEES = "docs/GUARANTEES.md"
-DOCS = [GUARANTEES, "README.md", "CONTRIBUTING.md", "docs/DECISIONS.md", "docs/PROTOCOL.md", "docs/BOX-MAKERS.md", "docs/DRILLS.md", "docs/COSTS.md", "docs/changes/second_reading.md", "docs/changes/wish-01.md", "docs/changes/wish-02.md"]
+DOCS = [GUARANTEES, "README.md", "CONTRIBUTING.md", "docs/DECISIONS.md", "docs/PROTOCOL.md", "docs/BOX-MAKERS.md", "docs/DRILLS.md", "docs/COSTS.md", "docs/changes/second_reading.md", "docs/changes/wish-01.md", "docs/changes/wish-02.md", "docs/changes/wish-03.md"]
 ROOTS = "crates|tests|drills|include|docs|\\.ci"
 PARTS = "specs|proofs|src|must-fail"
 PATH = re.compile(
@@ -107,6 +108,15 @@ def check_counts(lines, write):
         check(there == wanted, f"{GUARANTEES}:{first + i + 1}", f"has {there.strip()}\n    should have {wanted.strip()}")
 
 
+def check_shown():
+    """What docs/BOX-MAKERS.md shows of the box on a socket is what stands there between its marks."""
+    program = (TOP / "tests/box/box.c").read_text()
+    shown = re.search(r"/\* \[serve\] \*/\n(.*?)/\* \[/serve\] \*/", program, re.S)
+    blocks = re.findall(r"^```c\n(.*?)^```$", (TOP / "docs/BOX-MAKERS.md").read_text(), re.S | re.M)
+    check(shown and shown[1] in blocks, "docs/BOX-MAKERS.md", "does not show the lines of tests/box/box.c between its marks")
+
+
+check_shown()
 decisions = (TOP / "docs/DECISIONS.md").read_text()
 for doc in DOCS:
     lines = (TOP / doc).read_text().split("\n")

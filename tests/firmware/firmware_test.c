@@ -3,22 +3,12 @@
 #include "box_firmware.h"
 #include "box_firmware.h" /* a second time: the header's guard */
 
+#include "check.h"
+
 #include <stdint.h>
 #include <stdio.h>
 #include <stdlib.h>
 #include <string.h>
-
-static unsigned long checks;
-
-static void check(int holds, int line, const char *what) {
-    if (!holds) {
-        fprintf(stderr, "firmware_test.c:%d: not so: %s\n", line, what);
-        exit(1);
-    }
-    checks++;
-}
-
-#define CHECK(x) check((x) ? 1 : 0, __LINE__, #x)
 
 /* ---- One call, with guard bytes on both sides of record and reply, all of them compared */
 
@@ -189,26 +179,6 @@ static void refused_writes(void) {
 /* ---- Pseudo-random calls against Figure 3, with the early answer of wish 2 */
 
 #define CALLS 100000
-
-static uint64_t seed = 20100725;
-
-static uint32_t number(void) { /* xorshift64*, upper half */
-    seed ^= seed >> 12;
-    seed ^= seed << 25;
-    seed ^= seed >> 27;
-    return (uint32_t)((seed * 2685821657736338717u) >> 32);
-}
-
-static uint32_t get(const uint8_t *p) {
-    return (uint32_t)p[0] << 24 | (uint32_t)p[1] << 16 | (uint32_t)p[2] << 8 | (uint32_t)p[3];
-}
-
-static void put(uint8_t *p, uint32_t x) {
-    p[0] = (uint8_t)(x >> 24);
-    p[1] = (uint8_t)(x >> 16);
-    p[2] = (uint8_t)(x >> 8);
-    p[3] = (uint8_t)x;
-}
 
 /* What came of the calls: each has to come often. */
 enum { RAISED, NOT_RAISED, BELOW_BOTH, BELOW_READ_ONLY, BELOW_WRITE_ONLY, TAKEN, BELOW_READ_RANK, BELOW_WRITE_RANK, AT_READ_RANK, AT_WRITE_RANK, LENGTH, ZERO, KINDS };

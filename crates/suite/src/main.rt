@@ -2,6 +2,7 @@
 //
 // A line of the input that begins with a small letter is a case: a word that says how it is played, what the case is in words, a
 // bar, and the notation of its bytes (`notation`). Any other line is printed as it stands; among them is the legend of the words.
+mod frame;
 mod hand;
 mod notation;
 mod say;
@@ -23,6 +24,9 @@ fn case(kind: u8, s: &[u8]) {
         b'h' => show::by_hand(words, bytes),
         b'n' => show::new_floor(s, bytes),
         b'w' => write::parts(s, bytes),
+        b'g' => frame::get(s, bytes),
+        b'm' => frame::make(s, bytes),
+        b't' => frame::table(s, bytes),
         _ => text::print(b"no such kind of case\n"),
     }
 }

@@ -78,8 +78,9 @@ pub(crate) fn refusal(k: u8) {
         |refusal % (kind, or a byte that should be zero)|refusal % (no such station, box or attempt)\
         |refusal % (station gone)|refusal % (station reading, writing or decided)|refusal % (revision or round)\
         |refusal % (64 rows used)|refusal % (box stopped)|refusal % (not waiting, or not on the way)\
-        |refusal % (fewer than q boxes not stopped)|refusal %|refusal %|refusal % (buffer shorter than the file)|refusal %",
-        at_most(19, k),
+        |refusal % (fewer than q boxes not stopped)|refusal %|refusal %|refusal % (buffer shorter than the file)\
+        |refusal % (length of the frame)|refusal % (version of the frame)|refusal % (kind, or rank or revision 0)|refusal %",
+        at_most(22, k),
         &[k as u64],
     );
 }

@@ -11,7 +11,7 @@ fn digit(x: u8) -> u8 {
 }
 
 // Bytes, each as two hexadecimal digits behind a space.
-fn hex(s: &[u8]) {
+pub(crate) fn hex(s: &[u8]) {
     let mut i = 0;
     while i < s.len() {
         text::print(&[b' ', digit(s[i] / 16), digit(s[i] % 16)]);
@@ -30,7 +30,7 @@ fn short_hex(s: &[u8]) {
     hex(text::from(s, s.len() - 20));
 }
 
-fn same(a: &[u8], b: &[u8]) -> bool {
+pub(crate) fn same(a: &[u8], b: &[u8]) -> bool {
     if a.len() != b.len() {
         return false;
     }
@@ -45,11 +45,20 @@ fn same(a: &[u8], b: &[u8]) -> bool {
 }
 
 // The first so many bytes of a buffer.
-fn first(buffer: &mut [u8], room: usize) -> &mut [u8] {
+pub(crate) fn first(buffer: &mut [u8], room: usize) -> &mut [u8] {
     if room < buffer.len() {
         return &mut buffer[0..room];
     }
     buffer
+}
+
+// A buffer on a line of its own: the bytes up to an end, a stroke, and those behind.
+pub(crate) fn bytes(buffer: &[u8], end: usize) {
+    text::print(b"\n ");
+    short_hex(text::up_to(buffer, end));
+    text::print(b" /");
+    short_hex(text::from(buffer, end));
+    text::print(b"\n");
 }
 
 // Writes a file of these parts, and shows the buffer: the file, a stroke, and what stands behind it.
@@ -57,11 +66,7 @@ fn shown(buffer: &mut [u8], n: u8, m: u8, label: &[u8], records: &[u8]) {
     let written = drill_file::write_file(buffer, n, m, label, records);
     text::fill(b" -> size %, ", &[written.size as u64]);
     say::refusal(written.refusal);
-    text::print(b"\n ");
-    short_hex(text::up_to(buffer, written.size));
-    text::print(b" /");
-    short_hex(text::from(buffer, written.size));
-    text::print(b"\n");
+    bytes(buffer, written.size);
 }
 
 // The parts of a case: the buffer's size in two bytes, n, m, the label's length and the label; then the records.

@@ -1,0 +1,544 @@
+#!/usr/bin/env python3
+"""drive.py BOX_PROGRAM WORK_FOLDER: starts boxes, which keep their record files in a folder that is not there yet, and drives them as
+stations do, through sockets. Frames, boxes and stations are written here a second time, from documents 01 and 02 alone; each answer, and
+the record file after it, is compared with them. Prints the number of checks made, or the first that fails, with exit status 1."""
+import os
+import pathlib
+import random
+import select
+import signal
+import socket
+import struct
+import subprocess
+import sys
+import time
+
+READ, WRITE, READ_ANSWER, OUTRANKED, TAKEN, NOT_TAKEN = range(1, 7)  # wish 3, "Kinds"
+FIELDS = {READ: 1, WRITE: 2, READ_ANSWER: 2, OUTRANKED: 0, TAKEN: 0, NOT_TAKEN: 0}
+WAIT = 5  # seconds that a box may take for anything
+LIFE = 50  # seconds after which a box ends by itself, whatever happens here
+SEED = 20240607
+PROGRAM, FOLDER = sys.argv[1], pathlib.Path(sys.argv[2])
+checks = 0
+started = []  # every box process
+asked = []  # requests, and bytes that are none, for the message of a failure
+
+
+class Failure(Exception):
+    pass
+
+
+def check(holds, what):
+    global checks
+    if not holds:
+        raise Failure(what)
+    checks += 1
+
+
+def frame(kind, *fields, version=1):
+    """Wish 3: a 2-byte length of the rest, a version byte, a kind byte and 4-byte fields, all big-endian."""
+    return struct.pack(f">HBB{len(fields)}I", 2 + 4 * len(fields), version, kind, *fields)
+
+
+class Register:
+    """A box's record and Figure 3's routine on it, with the early answer of wish 2."""
+
+    def __init__(self, record):
+        self.read, self.write, self.value = struct.unpack(">III", record)
+
+    def record(self):
+        return struct.pack(">III", self.read, self.write, self.value)
+
+    def serve(self, kind, rank, revision=0):
+        if kind == READ:
+            if max(self.read, self.write) > rank:
+                return (OUTRANKED,)
+            self.read = rank
+            return READ_ANSWER, self.write, self.value
+        if self.read > rank or self.write >= rank:
+            return (NOT_TAKEN,)
+        self.write, self.value = rank, revision
+        return (TAKEN,)
+
+
+class Box:
+    """A box process, and in `register` what its record has to be."""
+
+    def __init__(self, name, *numbers):
+        self.name, self.file, self.log = name, FOLDER / name, FOLDER / (name + ".log")
+        if numbers:
+            self.file.write_bytes(struct.pack(">III", *numbers))
+        self.register = Register(self.kept())
+        self.start()
+
+    def kept(self):
+        return self.file.read_bytes() if self.file.exists() else bytes(12)
+
+    def start(self, seconds=LIFE):
+        with open(self.log, "ab") as log:
+            self.process = subprocess.Popen([PROGRAM, self.file, str(seconds)], stdin=subprocess.DEVNULL, stdout=subprocess.PIPE, stderr=log)
+        started.append(self.process)
+        with open(FOLDER / "processes", "a") as processes:
+            print(self.process.pid, file=processes)
+        said = b""
+        while not said.endswith(b"\n") and select.select([self.process.stdout], [], [], WAIT)[0]:
+            more = os.read(self.process.stdout.fileno(), 100)
+            said += more
+            if not more:
+                break
+        check(said.startswith(b"port ") and said[5:-1].isdigit() and said.endswith(b"\n"), f"{self.name} prints {said!r} for its port")
+        self.port = int(said[5:])
+
+    def end(self, by=signal.SIGTERM, status=0):
+        self.process.send_signal(by)
+        self.is_ended(status)
+
+    def is_ended(self, status, message=""):
+        ends = self.process.wait(WAIT)
+        check(ends == status, f"{self.name} ends with status {ends}, not {status}: {self.log.read_text()}")
+        said = self.log.read_text()
+        check(message in said if message else said == "", f"{self.name} says on stderr: {said}")
+        self.process.stdout.close()
+
+    def is_kept(self):
+        there, wanted = self.kept(), self.register.record()
+        check(there == wanted, f"{self.name} keeps {there.hex(' ')}, not {wanted.hex(' ')}")
+
+    def goes_on(self):
+        """Serves the next connection, with the record that it had. A read with the read rank itself, not below the write rank, changes
+        nothing, so nothing is saved and the file is the same one; were the record in the box another, it would be saved or answered
+        otherwise."""
+        before = os.stat(self.file)
+        new_connection_asks(self, (READ, self.register.read))
+        after = os.stat(self.file)
+        check((after.st_ino, after.st_mtime_ns) == (before.st_ino, before.st_mtime_ns), f"{self.name} saved a record that was not to change")
+
+    def numbers_are(self, *numbers):
+        """In numbers written out, so that this does not rest on Register."""
+        check(self.kept() == struct.pack(">III", *numbers), f"{self.name} keeps {self.kept().hex(' ')}, not {numbers}")
+
+
+class Connection:
+    def __init__(self, box):
+        self.box = box
+        self.socket = socket.create_connection(("127.0.0.1", box.port), WAIT)
+        self.socket.setsockopt(socket.IPPROTO_TCP, socket.TCP_NODELAY, 1)
+
+    def send(self, *requests):
+        asked.extend(requests)
+        self.send_bytes(b"".join(frame(*r) for r in requests))
+
+    def send_bytes(self, data):
+        self.socket.sendall(data)
+
+    def fetch(self, count):
+        data = b""
+        while len(data) < count:
+            more = self.socket.recv(count - len(data))
+            if not more:
+                raise Failure(f"{self.box.name} closes the connection, with {len(data)} of {count} bytes sent")
+            data += more
+        return data
+
+    def answer(self):
+        """One answer, taken apart."""
+        length, version, kind = struct.unpack(">HBB", self.fetch(4))
+        check(version == 1 and kind in (READ_ANSWER, OUTRANKED, TAKEN, NOT_TAKEN), f"{self.box.name} answers version {version} kind {kind}")
+        check(length == 2 + 4 * FIELDS[kind], f"{self.box.name} answers kind {kind} with length {length}")
+        return (kind, *struct.unpack(f">{FIELDS[kind]}I", self.fetch(4 * FIELDS[kind])))
+
+    def answered(self, *requests):
+        """Fetches the answers to these requests, in their order. The record is that behind the last of them."""
+        for request in requests:
+            there, wanted = self.answer(), self.box.register.serve(*request)
+            check(there == wanted, f"{self.box.name} answers {there} to {request}, not {wanted}")
+        self.box.is_kept()
+        return there
+
+    def ask(self, *request):
+        self.send(request)
+        return self.answered(request)
+
+    def is_silent(self):
+        check(not select.select([self.socket], [], [], 0)[0], f"{self.box.name} answers what is not yet a whole request")
+
+    def is_closed(self):
+        """By the box, without a byte. Bytes that it did not fetch make it a reset."""
+        try:
+            there = self.socket.recv(100)
+        except ConnectionResetError:
+            there = b""
+        check(there == b"", f"{self.box.name} answers {there.hex(' ')} where it should close the connection")
+        self.close()
+
+    def close(self, reset=False):
+        if reset:
+            self.socket.setsockopt(socket.SOL_SOCKET, socket.SO_LINGER, struct.pack("ii", 1, 0))
+        self.socket.close()
+
+
+class Station:
+    """Document 01, "Steps", with wish 2. A request waits until `read` or `write` has it served; its answer is then delivered at once."""
+
+    def __init__(self, boxes):
+        self.connections = [Connection(box) for box in boxes]
+        self.quorum = len(boxes) // 2 + 1
+        self.state, self.decided = "idle", 0
+
+    def begin(self, rank, offer):
+        self.rank, self.offer, self.state = rank, offer, "reading"
+        self.reads, self.writes = {}, {}
+
+    def read(self, box):
+        answer = self.connections[box].ask(READ, self.rank)
+        if self.state != "reading":
+            return "received"
+        self.reads[box] = answer
+        if (OUTRANKED,) in self.reads.values():
+            self.state = "idle"
+            return "aborted"
+        if len(self.reads) != self.quorum:
+            return "received"
+        _, _, value = min(self.reads.items(), key=lambda read: (-read[1][1], read[0]))[1]  # the highest write rank, then the lowest box
+        self.state, self.revision = "writing", value if value != 0 else self.offer
+        return "write issued", self.revision
+
+    def write(self, box):
+        answer = self.connections[box].ask(WRITE, self.rank, self.revision)
+        if self.state != "writing":
+            return "received"
+        self.writes[box] = answer
+        if len(self.writes) != self.quorum:
+            return "received"
+        if any(a != (TAKEN,) for a in self.writes.values()):
+            self.state = "idle"
+            return "aborted"
+        self.state, self.decided = "decided", self.revision
+        return "decided", self.revision
+
+    def does(self, *steps):
+        """Each step is what is done, at which box, and what has to come of it."""
+        for what, box, wanted in steps:
+            said = getattr(self, what)(box)
+            check(said == wanted, f"rank {self.rank}, {what} at box {box}: {said}, not {wanted}")
+
+
+def over(boxes, *stations):
+    for connection in [c for station in stations for c in station.connections]:
+        connection.close()
+    for box in boxes:
+        box.end()
+
+
+def new_connection_asks(box, *requests):
+    connection = Connection(box)
+    for request in requests:
+        connection.ask(*request)
+    connection.close()
+
+
+def whole_attempts():
+    boxes = [Box(f"whole-{b}") for b in range(3)]
+    first, second = Station(boxes), Station(boxes)
+    first.begin(16, 7)
+    first.does(("read", 0, "received"), ("read", 1, ("write issued", 7)), ("write", 0, "received"), ("write", 1, ("decided", 7)))
+    for box, numbers in zip(boxes, [(16, 16, 7), (16, 16, 7), (0, 0, 0)]):
+        box.numbers_are(*numbers)
+    second.begin(33, 9)
+    second.does(("read", 2, "received"), ("read", 1, ("write issued", 7)), ("write", 2, "received"), ("write", 1, ("decided", 7)))
+    second.does(("read", 0, "received"), ("write", 0, "received"))
+    for box in boxes:
+        box.numbers_are(33, 33, 7)
+    over(boxes, first, second)
+
+
+def example_i():
+    """Document 01, "Floors worked through", I. Both stations are connected to every box all the time."""
+    boxes = [Box(f"example-{b}") for b in range(3)]
+    zero, one = Station(boxes), Station(boxes)
+    zero.begin(16, 7)
+    zero.does(("read", 0, "received"), ("read", 1, ("write issued", 7)))
+    one.begin(17, 9)
+    one.does(("read", 1, "received"), ("read", 2, ("write issued", 9)), ("write", 1, "received"), ("write", 2, ("decided", 9)))
+    zero.does(("write", 0, "received"), ("write", 1, "aborted"))
+    check((zero.state, one.state, one.decided) == ("idle", "decided", 9), f"the stations are {zero.state} and {one.state} on {one.decided}")
+    zero.does(("write", 2, "received"))
+    for box, record in zip(boxes, ["00000010 00000010 00000007", "00000011 00000011 00000009", "00000011 00000011 00000009"]):
+        check(box.kept() == bytes.fromhex(record), f"{box.name} keeps {box.kept().hex(' ', 4)}, not {record}")
+    # and with a round above all that it was told, station 0 finds 9
+    zero.begin(32, 7)
+    zero.does(("read", 0, "received"), ("read", 1, ("write issued", 9)), ("write", 1, "received"), ("write", 0, ("decided", 9)))
+    over(boxes, zero, one)
+
+
+def outranked_reads():
+    boxes = [Box("outranked-0", 33, 16, 7), Box("outranked-1", 5, 33, 7), Box("outranked-2")]
+    for box in boxes[:2]:  # by the read rank as in example F, by the write rank
+        connection, before = Connection(box), box.kept()
+        for rank in (1, 6, 16, 18, 32):
+            connection.send((READ, rank))
+            answer = connection.fetch(4).hex(" ")
+            check(answer == "00 02 01 04", f"{box.name} answers {answer} to a read with rank {rank}, which is outranked")
+            check(box.kept() == before, f"{box.name} keeps {box.kept().hex(' ')}, which an outranked read changed")
+        connection.ask(READ, 33)  # equal is not outranked
+        connection.close()
+    station = Station(boxes)
+    station.begin(32, 9)
+    station.does(("read", 2, "received"), ("read", 0, "aborted"), ("read", 1, "received"))
+    over(boxes, station)
+
+
+def split_frames():
+    box = Box("split")
+    one, other = Connection(box), Connection(box)
+    rank = 16
+    for kind, size in ((READ, 8), (WRITE, 12)):
+        for cuts in [range(1, size)] + [[cut] for cut in range(1, size)]:  # byte by byte, then at each position
+            rank += 2
+            request = (READ, rank) if kind == READ else (WRITE, rank, rank * 0x01010101)
+            data, places = frame(*request), [0, *cuts, size]
+            asked.append(request)
+            for start, end in zip(places, places[1:]):
+                one.is_silent()
+                box.is_kept()
+                one.send_bytes(data[start:end])
+                time.sleep(0.002)
+            one.answered(request)
+    for cut in range(1, 12):  # while half a frame is there, others are served
+        rank += 10
+        request = WRITE, rank, 7
+        one.send_bytes(frame(*request)[:cut])
+        other.ask(READ, rank - 1)
+        new_connection_asks(box, (WRITE, rank - 1, 9))
+        one.is_silent()
+        asked.append(request)
+        one.send_bytes(frame(*request)[cut:])
+        one.answered(request)
+    one.close()
+    other.close()
+    box.end()
+
+
+def joined_frames():
+    box = Box("joined")
+    c = Connection(box)
+    for requests in ([(READ, 16), (WRITE, 16, 7), (READ, 15), (WRITE, 16, 9), (READ, 33), (WRITE, 20, 9), (WRITE, 40, 7)],
+                     [(kind, rank, 7)[:1 + FIELDS[kind]] for rank in range(41, 47) for kind in (WRITE, READ)]):
+        c.send(*requests)
+        c.answered(*requests)
+    for cut in range(1, 12):  # one frame and a part of the next, then the other part
+        first, second = (READ, 100 + cut), (WRITE, 100 + cut, cut)
+        c.send_bytes(frame(*first) + frame(*second)[:cut])
+        asked.extend((first, second))
+        c.answered(first)
+        c.is_silent()
+        c.send_bytes(frame(*second)[cut:])
+        c.answered(second)
+    c.close()
+    for frames, served in ((frame(READ, 200) + frame(READ, 201, version=2), [(READ, 200)]), (frame(READ, 0) + frame(READ, 202), [])):
+        c = Connection(box)  # a refused frame ends the connection: those before it were answered, those behind it are not served
+        c.send_bytes(frames)
+        if served:
+            c.answered(*served)
+        c.is_closed()
+        box.is_kept()
+    new_connection_asks(box, (WRITE, 200, 5), (READ, 200))
+    box.end()
+
+
+def refused_frames():
+    box = Box("refused", 33, 16, 7)
+    high = 0x7FFFFFFF  # a rank which, were it served, the record would show
+    body = struct.pack(">III", high, 9, 9)
+
+    def of_length(length, kind):
+        return struct.pack(">HBB", length, 1, kind) + body[:length - 2]
+
+    frames = [b"\0\0", b"\0\0" + frame(READ, high), b"\0\1\1", b"\0\1\1" + frame(WRITE, high, 9)]  # too short for a kind
+    for length in (b"\0\x0b", b"\1\6", b"\xff\xff"):  # too long for any kind, which shows at the length alone
+        frames += [length, length + b"\1\1" + body[:9], length + b"\1\2" + body[:9]]
+    frames += [of_length(length, kind) for kind in (READ, WRITE) for length in range(2, 11) if length != 2 + 4 * FIELDS[kind]]
+    frames += [of_length(length, kind) for kind in (READ_ANSWER, OUTRANKED, TAKEN, NOT_TAKEN) for length in (2, 6, 10)]  # no requests
+    frames += [frame(*request, version=version) for version in (0, 2, 255) for request in ((READ, high), (WRITE, high, 9))]
+    frames += [of_length(length, kind) for kind in (0, 7, 255) for length in (2, 6, 10)]
+    frames += [frame(READ, 0), frame(WRITE, 0, 9), frame(WRITE, high, 0), frame(WRITE, 0, 0)]
+    for data in frames:
+        c = Connection(box)
+        asked.append(data.hex(" "))
+        c.send_bytes(data)
+        c.is_closed()
+        box.numbers_are(33, 16, 7)
+        box.goes_on()
+    new_connection_asks(box, (WRITE, 33, 9), (READ, 34))
+    box.end()
+
+
+def cut_connections():
+    box, rank = Box("cut", 33, 16, 7), 33
+    for data in (frame(READ, 0x7FFFFFFF), frame(WRITE, 0x7FFFFFFF, 9)):
+        for count in range(len(data)):  # in the middle of a frame
+            for reset in (False, True):
+                c = Connection(box)
+                asked.append(f"{count} bytes of {data.hex(' ')}")
+                c.send_bytes(data[:count])
+                c.close(reset)
+                box.numbers_are(33, 16, 7)
+                box.goes_on()
+    for count in (1, 2, 5):  # behind whole requests, no answer fetched: each may be served or not, but in their order
+        for reset, held in ((False, False), (False, True), (True, False), (True, True)):
+            requests = [(WRITE, rank + 1 + i, rank) for i in range(count)]
+            may_be = [box.register.record()]
+            for request in requests:
+                box.register.serve(*request)
+                may_be.append(box.register.record())
+            if held:  # until the connection is cut, so that the box finds requests and cut at once
+                box.process.send_signal(signal.SIGSTOP)
+            c = Connection(box)
+            c.send(*requests)
+            c.close(reset)
+            box.process.send_signal(signal.SIGCONT)
+            if count == 1 and not reset:  # a request that came whole is served, also where its station has gone
+                until = time.monotonic() + WAIT
+                while box.kept() == may_be[0] and time.monotonic() < until:
+                    time.sleep(0.001)
+                may_be = may_be[1:]
+            rank += count + 1
+            c = Connection(box)
+            c.send((READ, rank))  # what comes behind this one of the requests above changes nothing
+            answer, after = c.answer(), box.kept()
+            matching = [r for r in map(Register, may_be) if r.serve(READ, rank) == answer and r.record() == after]
+            check(len(matching) == 1, f"{box.name} answers {answer} and keeps {after.hex(' ')} behind {requests}")
+            box.register = matching[0]
+            c.ask(WRITE, rank, 7)
+            c.close()
+    box.end()
+
+
+def connected_again(box):
+    """A connection in the place of one that was closed, once the box has seen that."""
+    until = time.monotonic() + WAIT
+    while True:
+        c = Connection(box)
+        try:
+            c.ask(READ, box.register.read)
+            return c
+        except (Failure, ConnectionError):
+            c.close()
+            if time.monotonic() > until:
+                raise
+            time.sleep(0.005)
+
+
+def sixteen_connections():
+    box = Box("sixteen")
+    connections = [Connection(box) for _ in range(16)]
+    for c in connections:
+        c.ask(READ, 16)
+    Connection(box).is_closed()
+    for revision, c in enumerate(connections, 7):
+        c.ask(WRITE, 16, revision)
+    connections.pop(3).close()
+    connections.append(connected_again(box))
+    for rank, c in enumerate(connections, 10):
+        c.ask(READ, rank)
+        c.close()
+    box.end()
+
+
+def started_again():
+    """The record is kept before the answer is sent, so that a box ended at any moment goes on with it."""
+    boxes = [Box(f"again-{b}") for b in range(3)]
+    station = Station(boxes)
+    station.begin(16, 7)
+    station.does(("read", 0, "received"), ("read", 1, ("write issued", 7)))
+    for box, by, status in ((boxes[0], signal.SIGTERM, 0), (boxes[1], signal.SIGKILL, -9)):
+        box.end(by, status)
+        box.numbers_are(16, 0, 0)
+        station.connections[int(box.name[-1])].close()
+        (FOLDER / (box.name + ".new")).write_bytes(b"of a save that was cut short")
+        box.start()
+        station.connections[int(box.name[-1])] = Connection(box)
+    new_connection_asks(boxes[0], (READ, 15), (WRITE, 15, 9))  # what it was told it still knows
+    station.does(("write", 0, "received"), ("write", 1, ("decided", 7)))
+    boxes[1].end()
+    boxes[1].start()
+    later = Station(boxes)
+    later.begin(33, 9)
+    later.does(("read", 1, "received"), ("read", 2, ("write issued", 7)), ("write", 2, "received"), ("write", 1, ("decided", 7)))
+    over(boxes, station, later)
+
+
+def without_a_record():
+    """A box that cannot keep its record does not answer, and one that has lost it does not start."""
+    box = Box("unsaved", 16, 0, 0)
+    (FOLDER / "unsaved.new").mkdir()  # so that the file of this name cannot be written
+    c = Connection(box)
+    c.ask(READ, 16)  # changes nothing, so nothing is saved
+    asked.append((WRITE, 16, 7))
+    c.send_bytes(frame(WRITE, 16, 7))
+    c.is_closed()
+    box.is_ended(1, "not saved")
+    box.numbers_are(16, 0, 0)
+    for size in (0, 1, 11, 13, 24):
+        file = FOLDER / f"size-{size}"
+        file.write_bytes(bytes(range(size)))
+        done = subprocess.run([PROGRAM, file, "5"], stdin=subprocess.DEVNULL, capture_output=True, timeout=WAIT)
+        check(done.returncode == 1 and done.stdout == b"" and done.stderr != b"", f"a record file of {size} bytes gives {done}")
+        check(file.read_bytes() == bytes(range(size)) and not file.with_suffix(".new").exists(), f"a file of {size} bytes is changed")
+
+
+def random_requests():
+    made = random.Random(SEED)
+    seen = []
+
+    def number():
+        return made.choice((0, 1, 16, 255, 256, 0x7FFFFFFF, 0xFFFFFFFF, made.getrandbits(32)))
+
+    for i in range(6):  # any 12 bytes are a record
+        box = Box(f"random-{i}", number(), number(), number())
+        connections = [Connection(box) for _ in range(5)]
+        for step in range(80):
+            near = made.choice((box.register.read, box.register.write, number()) if step < 3 else (box.register.read, box.register.write))
+            rank = min(max(near + made.randint(-2, 3), 1), 0xFFFFFFFF)
+            request = made.choice(((READ, rank), (WRITE, rank, number() or 7)))
+            asked.append(f"seed {SEED}, request {step} to {box.name}")
+            seen.append(made.choice(connections).ask(*request)[0])
+        for c in connections:
+            c.close()
+        box.end()
+    for kind in (READ_ANSWER, OUTRANKED, TAKEN, NOT_TAKEN):
+        check(seen.count(kind) >= 30, f"answers of kind {kind}: {seen.count(kind)} only")
+
+
+def interrupted(number, _):
+    raise Failure(f"ended by signal {number}, after {checks} checks")
+
+
+def main():
+    for number in (signal.SIGALRM, signal.SIGTERM, signal.SIGINT):
+        signal.signal(number, interrupted)
+    signal.alarm(60)
+    scenario = main
+    try:
+        FOLDER.mkdir(parents=True)
+        short = Box("short")
+        new_connection_asks(short, (WRITE, 1, 7))  # the lowest rank is taken by a new box, and leaves the read rank 0
+        short.numbers_are(0, 1, 7)
+        short.end()
+        short.start(seconds=1)
+        for scenario in (whole_attempts, example_i, outranked_reads, split_frames, joined_frames, refused_frames, cut_connections,
+                         sixteen_connections, started_again, without_a_record, random_requests):
+            scenario()
+        short.is_ended(0)  # by itself
+    except (Failure, OSError, subprocess.SubprocessError) as e:
+        sys.exit(f"drive.py: {scenario.__name__}: {e} (asked last: {'; '.join(map(str, asked[-3:]))})")
+    finally:
+        signal.alarm(0)
+        for process in started:
+            if process.poll() is None:
+                process.kill()
+            process.wait()
+    print(checks)
+
+
+main()
