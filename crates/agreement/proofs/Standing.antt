@@ -10,7 +10,7 @@ use lib.ListN.{getD}
 use borrow.Author.Tests.{eqb-true, eq-eqb}
 use Rattle.base.specs.Numbers.{rankOf}
 use Rattle.register.specs.declared.StorageBox.{StorageBox}
-use Rattle.base.specs.Quorum.{indicator, count}
+use Rattle.base.specs.Quorum.{count}
 use Rattle.floor.specs.Floors.{boxAt, stationAt, rowAt}
 use Rattle.attempts.specs.Stations.{isGone}
 use Rattle.floor.specs.Claims.{Sound}
@@ -19,7 +19,6 @@ use Rattle.attempts.specs.declared.State.{State}
 use Rattle.attempts.specs.declared.State.the-variants.{Idle, Reading, Writing, Decided, Gone}
 use Rattle.attempts.specs.declared.Station.{Station}
 use Rattle.floor.specs.declared.Floor.{Floor}
-use Rattle.commands.specs.declared.Outcome.{Outcome}
 use Rattle.commands.specs.declared.Outcome.the-variants as said
 use Rattle.base.proofs.Cases.{clash, up-to}
 use Rattle.floor.proofs.Keeps.{step-keeps, step-sizes}
@@ -27,7 +26,6 @@ use Rattle.floor.proofs.RowLaws.{apply-used}
 use Rattle.floor.proofs.BoxLaws.{stopped-stays, stopped-from}
 use Rattle.floor.proofs.StationLaws.{isActive, gone-from, active-from}
 use Rattle.agreement.specs.Words.{Before, commandAt, Attempt, Named, AbortsAt, IdleAt, attemptsBefore, RoundLeft}
-use Rattle.commands.specs.Outcomes.{isBegun}
 use Rattle.floor.specs.Runs.{floorAt, saidAt}
 use Rattle.agreement.proofs.History.{History, StationShows, Shows}
 use Rattle.agreement.proofs.Reach.{New}

@@ -1,3 +1,4 @@
+use native.Mathlib.Omega.{arith}
 use borrow.Author.Needs.{needs}
 use Rattle.frames.proofs.WriterLaws.{no-field, one-field, two-fields}
 use Rattle.frames.proofs.writer.put_words.Statement.{statement}
@@ -15,7 +16,7 @@ single c =
     let one = two .before .before .before .before .before in
     let start = one .before .before .before in
     one-field (start .args .buffer .now) _ (start .args .fields) (start .args .head) (start .args .first) (start .args .second) (start .pre .1) (one .put-u32 .ensures)
-    (two .before .before .if1 .left) _ (two .put-u322 .ensures) (c .if2 .taken)
+    (two .before .before .if1 .left) _ (two .put-u322 .ensures) (omega (arith, c .if2 .taken))
 
 both : tie.Need-returns-3
 both c =
@@ -24,7 +25,7 @@ both c =
     let one = two .before .before .before .before .before in
     let start = one .before .before .before in
     two-fields (start .args .buffer .now) _ (start .args .fields) (start .args .head) (start .args .first) (start .args .second) (start .pre .1) (one .put-u32 .ensures)
-    (two .before .before .if1 .left) _ (two .put-u322 .ensures) (three .before .before .if2 .left) (start .pre .0) _ (three .put-u323 .ensures)
+    (two .before .before .if1 .left) _ (two .put-u322 .ensures) (omega (arith, three .before .before .if2 .left)) (start .pre .0) _ (three .put-u323 .ensures)
 
 pub put-words-spec : {M : Type 1} → statement M
 put-words-spec =

@@ -11,7 +11,7 @@ written c =
     let second = c .before .before .before in
     let head = second .before .before in
     let known = head .before .before .before in
-    written-said _ _ (search tests) _ _ (known .before .kind-of .ensures) (known .fields-in .ensures) (head .before .before .if2 .left) _ _ _ _
+    written-said _ _ (search tests) _ _ (known .before .kind-of .ensures) (known .fields-in .ensures) (omega (arith, head .before .before .if2 .left)) _ _ _ _
     (head .head .ensures) (second .before .first-of .ensures) (second .second-of .ensures) (c .before .before .put-words .ensures)
 
 pub write-frame-spec : {M : Type 1} → statement M
@@ -30,6 +30,6 @@ write-frame-spec =
     (λ c κs. search needs)
     (λ c κs.
     let known = c .before .before .before .before .before in
-    (omega (arith, known .fields-in .ensures, fields-few (known .before .kind-of .result)), c .before .before .before .before .if2 .left))
+    (omega (arith, known .fields-in .ensures, fields-few (known .before .kind-of .result)), omega (arith, c .before .before .before .before .if2 .left)))
     (λ c. search needs)
     written)
