@@ -5,6 +5,7 @@ use Prim.Native.Nat.{ℕ, zero, suc, _+_, _/_, _%_, _^_, _≤_, _<_}
 use native.Mathlib.Numerals.{towards-suc}
 use native.Mathlib.Omega.{arith}
 use borrow.Author.Tests.{le-leb}
+use lib.Bits.{bitAnd, and-le-r}
 use lib.Dec.{leb}
 use lib.ListN.{length, getD, take, drop, List·getD-eq-default}
 use lib.Seq.{drop-cons, length-sets, sets-eq}
@@ -20,6 +21,14 @@ bytes-below (x ∷ s) b (suc i) = bytes-below s (b .1) i
 
 pub past-end : (s : List ℕ) (p : ℕ) → length s ≤ p → 0 ≡ getD s p 0
 past-end s p h = sym (List·getD-eq-default s 0 h)
+
+-- what a mask of 8 bits leaves of a number is a byte
+pub masked : (x mask : ℕ) → mask < 256 → bitAnd x mask < 256
+masked x mask h = omega (arith, and-le-r x mask)
+
+-- four bytes, of which three are told
+pub four-bytes : {b c d b′ c′ d′ : ℕ} (a : ℕ) → b ≡ b′ → c ≡ c′ → d ≡ d′ → a ∷ b ∷ c ∷ d ∷ [] ≡ a ∷ b′ ∷ c′ ∷ d′ ∷ []
+four-bytes a p q r = rw (p, q, r)
 
 -- ---- a number of two bytes
 -- any number is spelt by its bytes

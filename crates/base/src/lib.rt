@@ -32,17 +32,17 @@ pub fn be32(a: u8, b: u8, c: u8, d: u8) -> u32
 pub fn split16(x: u16) -> [u8; 2]
     ensures { λ r. ⌜ r ≡ bytes16 x ⌝ }
 {
-    [(x / 256) as u8, (x % 256) as u8]
+    [(x >> 8) as u8, (x & 255) as u8]
 }
 
 pub fn split32(x: u32) -> [u8; 4]
     ensures { λ r. ⌜ r ≡ bytes32 x ⌝ }
 {
     [
-        (x / 16777216) as u8,
-        (x / 65536 % 256) as u8,
-        (x / 256 % 256) as u8,
-        (x % 256) as u8,
+        (x >> 24) as u8,
+        (x >> 16 & 255) as u8,
+        (x >> 8 & 255) as u8,
+        (x & 255) as u8,
     ]
 }
 
@@ -107,7 +107,7 @@ pub fn put_bytes(s: &mut [u8], at: usize, bytes: &[u8])
 pub fn majority(n: u8) -> u8
     ensures { λ r. ⌜ r ≡ quorum n ⌝ }
 {
-    n / 2 + 1
+    (n >> 1) + 1
 }
 
 // Whether a floor may have n boxes and m stations: refusal 3 does not apply.

@@ -6,7 +6,7 @@ ghost use mathlib.Core.Path.{_≡_};
 ghost use mathlib.Core.Bool.{true, false};
 ghost use lib.ListN.{length};
 ghost use lib.Dec.{leb};
-ghost use Prim.Native.Nat.{_+_, _/_, _≤_};
+ghost use Prim.Native.Nat.{_+_, _≤_};
 ghost use Rattle.base.specs.Choice.{if_then_else_};
 ghost use Rattle.base.specs.Records.{recordAt, recordsIn};
 ghost use Rattle.commands.specs.Commands.{commandOf};
@@ -195,7 +195,7 @@ fn run_sound(mut f: Floor, first: Command, records: &[u8], until: Until) -> Ran
     requires { ⌜ Sound f ⌝ }
     ensures { λ r. ⌜ r ≡ runFrom until 0 f first (recordsIn (now (records .entry))) ⌝ }
 {
-    let count = records.len() / 8;
+    let count = records.len() >> 3;
     let mut c = first;
     let mut k: usize = 0;
     loop {
@@ -243,7 +243,7 @@ fn run_refusal(right: bool, size: usize) -> u8
     if !right {
         return 6;
     }
-    if size % 8 != 0 {
+    if size & 7 != 0 {
         return 5;
     }
     0

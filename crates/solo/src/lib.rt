@@ -69,7 +69,7 @@ fn round_above(h: u32, s: u8) -> u32
     if h < own {
         return 1;
     }
-    (h - own) / 16 + 1
+    ((h - own) >> 4) + 1
 }
 
 // How many of the first n boxes have not stopped.

@@ -1,3 +1,4 @@
+use lib.Bits.{and-mask}
 use mathlib.Core.Path.{refl}
 use Rattle.base.proofs.Choices.{on-true, on-false}
 use Rattle.base.proofs.Tests.{tests}
@@ -11,5 +12,5 @@ run-refusal-spec =
     tie.close
     (tie.spec
     (λ c. on-false _ (search tests) refl)
-    (λ c. on-true _ (search tests) (on-false _ (search tests) refl))
-    (λ c. on-true _ (search tests) (on-true _ (search tests) refl)))
+    (λ c. on-true _ (search tests) (on-false _ (rw (← (and-mask (c .before .before .args .size) 3)) (search tests)) refl))
+    (λ c. on-true _ (search tests) (on-true _ (rw (← (and-mask (c .before .before .args .size) 3)) (search tests)) refl)))
