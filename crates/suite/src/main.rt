@@ -2,9 +2,13 @@
 //
 // A line of the input that begins with a small letter is a case: a word that says how it is played, what the case is in words, a
 // bar, and the notation of its bytes (`notation`). Any other line is printed as it stands; among them is the legend of the words.
+ghost use mathlib.Core.Path.{_≡_};
+ghost use lib.ListN.{length};
+
 mod frame;
 mod hand;
 mod notation;
+mod rounds;
 mod say;
 mod show;
 mod text;
@@ -27,6 +31,7 @@ fn case(kind: u8, s: &[u8]) {
         b'g' => frame::get(s, bytes),
         b'm' => frame::make(s, bytes),
         b't' => frame::table(s, bytes),
+        b'a' => rounds::ranks(words, bytes),
         _ => text::print(b"no such kind of case\n"),
     }
 }
@@ -54,9 +59,15 @@ fn lines(input: &[u8]) {
     }
 }
 
-// The input has fewer bytes than the buffer; its last line is printed, and would be missing if it were cut.
+// Room for the input, which has fewer bytes; its last line is printed, and would be missing if it were cut.
+fn room() -> [u8; 131072]
+    ensures { λ r. ⌜ 131072 ≡ length r ⌝ }
+{
+    [0; 131072]
+}
+
 fn main() {
-    let mut input = io::large_buffer();
+    let mut input = room();
     let got = io::read_full(0, &mut input);
     lines(&input[..got]);
 }
