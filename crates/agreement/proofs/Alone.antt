@@ -2,7 +2,7 @@
 use Prim.Native.Nat.{ℕ, zero, suc, _+_, _≤_, _<_}
 use native.Mathlib.Nat.{zero-add, le-trans}
 use native.Mathlib.Omega.{arith}
-use mathlib.Core.Path.{_≡_, refl, sym, subst, _∙_}
+use mathlib.Core.Path.{_≡_, refl, sym, ap, subst, _∙_}
 use mathlib.Core.Bool.{Bool, true, false}
 use mathlib.Core.List.{List, [], _∷_, _++_}
 use lib.ListN.{length, getD}
@@ -14,19 +14,22 @@ use Rattle.requests.specs.declared.Phase.{Phase}
 use Rattle.requests.specs.declared.Phase.the-variants.{Read, Write}
 use Rattle.register.specs.Register.{box0}
 use Rattle.commands.specs.Commands.{commandOf, encodeOf}
+use Rattle.floor.specs.Free.{nextRow}
+use Rattle.floor.specs.Claims.{Sound}
 use Rattle.floor.specs.declared.Floor.{Floor}
 use Rattle.commands.specs.declared.Command.{Command}
-use Rattle.commands.specs.declared.Command.the-variants.{Begin, Serve, Deliver}
+use Rattle.commands.specs.declared.Command.the-variants.{Begin, Serve, Deliver, Stop, Leave, Malformed}
 use Rattle.base.proofs.Cases.{clash, not-true-false}
 use Rattle.commands.proofs.Encodings.{decode-encode}
 use Rattle.solo.specs.Plan.{roundOf, answeringFrom, askedOf, exchange, exchanges, exchangesOf, planOf}
 use Rattle.solo.specs.Claims.{Ready}
 use Rattle.solo.proofs.RoundLaws.{round-smallest}
 use Rattle.floor.specs.Runs.{floorAt}
-use Rattle.agreement.specs.Words.{Answering, IdleAt, attemptsBefore, RoundLeft}
+use Rattle.agreement.specs.Words.{Answering, IdleAt, RowLeft, RoundLeft}
 use Rattle.agreement.proofs.Reach.{New}
 use Rattle.agreement.proofs.Positions.{size-at}
-use Rattle.agreement.proofs.Standing.{stations-at, used-at, stopped-before, idle-state, round-outranks}
+use Rattle.agreement.proofs.Standing.{stations-at, stopped-before, idle-state, round-outranks}
+use Rattle.agreement.proofs.FreeRows.{row-left}
 
 -- a set of boxes that have not stopped is no larger than the list of them
 count-answering : (boxes : List StorageBox) (k b : ℕ) (set : ℕ → Bool) → ((j : ℕ) → j < k → set j ≡ true → getD boxes (b + j) box0 .stopped ≡ false)
@@ -54,14 +57,14 @@ count-answering boxes (suc k) b set h =
     at-most false = omega arith
 
 -- the words of the list, on the floor before the step at i
-module _ (f : Floor) (l : List (List ℕ)) (new : New f) (s v i : ℕ) where
-  pub ready : s < f .m → IdleAt f l s i → Majority (f .n) (Answering f l i) → attemptsBefore f l i < 64 → RoundLeft f l s i → 0 < v → Ready (floorAt f l i) s v
-  ready place idle boxes few round offer = record {
+module _ (f : Floor) (l : List (List ℕ)) (new : New f) (z : Sound f) (s v i : ℕ) where
+  pub ready : s < f .m → IdleAt f l s i → Majority (f .n) (Answering f l i) → RowLeft f l i → RoundLeft f l s i → 0 < v → Ready (floorAt f l i) s v
+  ready place idle boxes row round offer = record {
     station = omega (arith, stations-at f l new i);
     idle = idle-state f l new s i idle;
     offer = offer;
     round = omega (arith, round-smallest (floorAt f l i) s .least (round .round) (round .least) (round-outranks f l new s i round), round .most);
-    row = omega (arith, used-at f l new i);
+    row = row-left f l new z i row;
     boxes = rw (size-at f l i) (le-trans (boxes .large)
         (count-answering (floorAt f l i .boxes) (f .n) 0 (boxes .set) (λ j h t. subst (λ (b : ℕ). getD (floorAt f l i .boxes) b box0 .stopped ≡ false) (sym (zero-add j))
         (not-true-false _ (λ e. boxes .each j h t (stopped-before f l new j i e))))));
@@ -84,6 +87,10 @@ each-append : (P : List ℕ → Type 0) (l k : List (List ℕ)) → Each P l →
 each-append P [] k e g = g
 each-append P (r ∷ l) k e g = (e .0, each-append P l k (e .1) g)
 
+-- and no other record of it than the first is a begin
+abbrev pub NoBegin : List ℕ → Type 0
+NoBegin r = (s round v : ℕ) → ¬ (commandOf r ≡ Begin s round v)
+
 delivers : (a : ℕ) (c : Command) → ((x b : ℕ) → c ≡ Deliver Write x b → x ≡ a) → Delivers a (encodeOf c)
 delivers a c d x b q = d x b (sym (decode-encode c) ∙ q)
 
@@ -92,12 +99,35 @@ unfolding exchanges exchange
 exchanges-deliver a p [] = tt
 exchanges-deliver a p (b ∷ l) = (delivers a (Serve p a b) (λ x y q. cc), (delivers a (Deliver p a b) (λ x y q. cc), exchanges-deliver a p l))
 
-plan-each : (g : Floor) (s v : ℕ) → Each (Delivers (g .used)) (planOf g s v)
+abbrev isBegin : Command → Bool
+isBegin (Begin s r v) = true
+isBegin (Serve p a b) = false
+isBegin (Deliver p a b) = false
+isBegin (Stop b) = false
+isBegin (Leave s) = false
+isBegin Malformed = false
+
+no-begin : (c : Command) → isBegin c ≡ false → NoBegin (encodeOf c)
+no-begin c h s r v e = clash (ap isBegin (sym (decode-encode c) ∙ e)) h
+
+exchanges-no-begin : (a : ℕ) (p : Phase) (l : List ℕ) → Each NoBegin (exchanges p a l)
+unfolding exchanges exchange
+exchanges-no-begin a p [] = tt
+exchanges-no-begin a p (b ∷ l) = (no-begin (Serve p a b) refl, (no-begin (Deliver p a b) refl, exchanges-no-begin a p l))
+
+pub plan-no-begin : (g : Floor) (s v i : ℕ) → suc i < length (planOf g s v) → NoBegin (getD (planOf g s v) (suc i) [])
+unfolding exchangesOf
+plan-no-begin g s v i h =
+    each-at NoBegin (exchangesOf g)
+    (each-append NoBegin (exchanges Read (nextRow g) (askedOf g)) _ (exchanges-no-begin (nextRow g) Read (askedOf g)) (exchanges-no-begin (nextRow g) Write (askedOf g)))
+    i (omega arith)
+
+plan-each : (g : Floor) (s v : ℕ) → Each (Delivers (nextRow g)) (planOf g s v)
 unfolding exchangesOf
 plan-each g s v = (
-  delivers (g .used) (Begin s (roundOf g s) v) (λ x b q. cc),
-  each-append (Delivers (g .used)) (exchanges Read (g .used) (askedOf g)) _ (exchanges-deliver (g .used) Read (askedOf g)) (exchanges-deliver (g .used) Write (askedOf g)),
+  delivers (nextRow g) (Begin s (roundOf g s) v) (λ x b q. cc),
+  each-append (Delivers (nextRow g)) (exchanges Read (nextRow g) (askedOf g)) _ (exchanges-deliver (nextRow g) Read (askedOf g)) (exchanges-deliver (nextRow g) Write (askedOf g)),
 )
 
-pub plan-delivers : (g : Floor) (s v i : ℕ) → i < length (planOf g s v) → Delivers (g .used) (getD (planOf g s v) i [])
-plan-delivers g s v = each-at (Delivers (g .used)) (planOf g s v) (plan-each g s v)
+pub plan-delivers : (g : Floor) (s v i : ℕ) → i < length (planOf g s v) → Delivers (nextRow g) (getD (planOf g s v) i [])
+plan-delivers g s v = each-at (Delivers (nextRow g)) (planOf g s v) (plan-each g s v)

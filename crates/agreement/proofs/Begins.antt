@@ -1,8 +1,9 @@
 -- A begin: the floor after it shows the history with the offer.
-use Prim.Native.Nat.{ℕ, _+_, _/_, _%_, _≤_, _<_}
+use Prim.Native.Nat.{ℕ, _/_, _%_, _≤_, _<_}
 use native.Mathlib.Nat.{le-refl, le-trans}
 use native.Mathlib.Omega.{arith}
 use mathlib.Core.Path.{_≡_, refl, sym, ap, subst, _∙_}
+use mathlib.Core.Bool.{true}
 use mathlib.Core.List.{List, _∷_, List·Memᴰ·head}
 use lib.ListN.{getD, set}
 use Rattle.base.specs.Numbers.{rankOf}
@@ -10,8 +11,11 @@ use Rattle.protocol.specs.Trace.{took, note, Edit, there, other, other-event}
 use Rattle.base.proofs.MaskLaws.{bit-zero}
 use Rattle.requests.specs.Requests.{slot0}
 use Rattle.requests.specs.declared.Slot.{Slot}
-use Rattle.attempts.specs.Stations.{station0}
-use Rattle.attempts.specs.Rows.{row0, answer0, newRow}
+use Rattle.attempts.specs.Stations.{station0, isActive}
+use Rattle.attempts.specs.Rows.{row0, answer0, newRow, usedAfter}
+use Rattle.attempts.proofs.UsedLaws.{used-least}
+use Rattle.floor.specs.Free.{nextRow}
+use Rattle.floor.proofs.FreeLaws.{next-in, next-other, next-over}
 use Rattle.floor.specs.Floors.{stationAt, rowAt}
 use Rattle.floor.specs.Claims.{Sound, Lengths, CanBegin}
 use Rattle.attempts.specs.declared.Station.{Station}
@@ -36,7 +40,7 @@ module _ {f : Floor} {l : History} (s : Shows f l) (y : Lengths f) (z : Sound f)
   row = newRow (f .n) t round v
 
   abbrev rows : List Row
-  rows = set (f .rows) (f .used) row
+  rows = set (f .rows) (nextRow f) row
 
   abbrev stations : List Station
   stations = set (f .stations) t (beginner f t round)
@@ -78,24 +82,28 @@ module _ {f : Floor} {l : History} (s : Shows f l) (y : Lengths f) (z : Sound f)
     };
   }
 
-  at-row : (k : ℕ) → Edit (rowAt f) (λ j. getD rows j row0) (f .used) (λ x. row) k
-  at-row = edit-set row0 (f .rows) (f .used) row (omega (arith, y .rows, d .row))
+  at-row : (k : ℕ) → Edit (rowAt f) (λ j. getD rows j row0) (nextRow f) (λ x. row) k
+  at-row = edit-set row0 (f .rows) (nextRow f) row (omega (arith, y .rows, d .row))
 
   rank-at : {x w : Row} → x ≡ w → x .rank ≡ w .rank
   rank-at e = ap (λ (w : Row). w .rank) e
 
-  distinct : (i j : ℕ) → i < f .used + 1 → j < f .used + 1 → getD rows i row0 .rank ≡ getD rows j row0 .rank → i ≡ j
+  distinct : (i j : ℕ) → i < usedAfter (f .used) → j < usedAfter (f .used) → getD rows i row0 .rank ≡ getD rows j row0 .rank → i ≡ j
   unfolding newRow
   distinct i j hi hj q = elim (at-row i) [
     | there p e ↦ elim (at-row j) [
       | there o g ↦ p ∙ sym o
-      | other o g ↦ absurd (unused j (omega arith) (sym (rank-at g) ∙ sym q ∙ rank-at e))
+      | other o g ↦ absurd (unused j (next-other f j hj o) (sym (rank-at g) ∙ sym q ∙ rank-at e))
     ]
     | other p e ↦ elim (at-row j) [
-      | there o g ↦ absurd (unused i (omega arith) (sym (rank-at e) ∙ q ∙ rank-at g))
-      | other o g ↦ s .distinct i j (omega arith) (omega arith) (sym (rank-at e) ∙ q ∙ rank-at g)
+      | there o g ↦ absurd (unused i (next-other f i hi p) (sym (rank-at e) ∙ q ∙ rank-at g))
+      | other o g ↦ s .distinct i j (next-other f i hi p) (next-other f j hj o) (sym (rank-at e) ∙ q ∙ rank-at g)
     ]
   ]
+
+  -- the row taken is over: no station is in it
+  not-in : {R : Type 0} (j : ℕ) → isActive (stationAt f j .state) (nextRow f) ≡ true → nextRow f < f .used → rowAt f (nextRow f) .station ≡ j → R
+  not-in j e h o = clash e (ap (λ (i : ℕ). isActive (stationAt f i .state) (nextRow f)) (sym o) ∙ next-over f h (d .row))
 
   -- no last round falls
   last-up : (j : ℕ) → stationAt f j .last ≤ getD stations j station0 .last
@@ -111,20 +119,20 @@ module _ {f : Floor} {l : History} (s : Shows f l) (y : Lengths f) (z : Sound f)
     step = other-event (λ j. refl);
     shows = record {
       paired = s .paired;
-      rows = set-in row0 (λ (k : ℕ) (x : Row). k < f .used + 1 → RowShows x (event ∷ l)) (f .rows) (f .used) row (omega (arith, y .rows, d .row))
-          (λ k p h. row-more event (λ q. omega arith) (s .rows k (omega arith))) (λ h. new-row);
+      rows = set-in row0 (λ (k : ℕ) (x : Row). k < usedAfter (f .used) → RowShows x (event ∷ l)) (f .rows) (nextRow f) row (omega (arith, y .rows, d .row))
+          (λ k p h. row-more event (λ q. omega arith) (s .rows k (next-other f k h p))) (λ h. new-row);
       distinct = distinct;
-      begun = set-in row0 (λ (k : ℕ) (x : Row). k < f .used + 1 → x .rank / 16 ≤ getD stations (x .rank % 16) station0 .last) (f .rows) (f .used) row
+      begun = set-in row0 (λ (k : ℕ) (x : Row). k < usedAfter (f .used) → x .rank / 16 ≤ getD stations (x .rank % 16) station0 .last) (f .rows) (nextRow f) row
           (omega (arith, y .rows, d .row))
-          (λ k p h. le-trans (s .begun k (omega arith)) (last-up (rowAt f k .rank % 16)))
+          (λ k p h. le-trans (s .begun k (next-other f k h p)) (last-up (rowAt f k .rank % 16)))
           (λ h. omega (arith, ap (λ (j : ℕ). getD stations j station0 .last) here, last-now, here));
       unbegun = λ r h. unwritten-more l r event (λ q. omega arith) (s .unbegun r (omega (arith, last-up (r % 16))));
-      stations = stations-stored (f .used + 1) rows (f .stations) t (beginner f t round) (omega (arith, y .stations, d .station, z .station-most))
-          (λ j p. station-kept-by (f .used) (f .used + 1) (f .rows) (f .used) row j (stationAt f j .decided) (omega arith) (λ h. absurd (omega arith))
-          (stationAt f j .state) (s .stations j))
-          (omega arith, ap (λ (w : Row). w .station) stored, ap (λ (w : Row). w .written) stored);
+      stations = stations-stored (usedAfter (f .used)) rows (f .stations) t (beginner f t round) (omega (arith, y .stations, d .station, z .station-most))
+          (λ j p. station-kept-by (f .used) (usedAfter (f .used)) (f .rows) (nextRow f) row j (stationAt f j .decided) (used-least (f .used))
+          (stationAt f j .state) (not-in j) (s .stations j))
+          (next-in f (d .row), ap (λ (w : Row). w .station) stored, ap (λ (w : Row). w .written) stored);
     };
   }
     where
-      stored : getD rows (f .used) row0 ≡ row
-      stored = row-stored f y z (f .used) row (d .row)
+      stored : getD rows (nextRow f) row0 ≡ row
+      stored = row-stored f y z (nextRow f) row (d .row)

@@ -39,6 +39,7 @@ use Rattle.floor.specs.Runs.{floorAt, saidAt}
 use Rattle.agreement.specs.Demand.{firstFloor}
 use Rattle.agreement.specs.Consequences.{Consequences}
 use Rattle.agreement.proofs.Reach.{New, new-floor}
+use Rattle.agreement.proofs.Positions.{means-at}
 use Rattle.agreement.proofs.Safety.{agreement, decision-of, decider-at, shown-decided, shown-still}
 use Rattle.agreement.proofs.Standing.{stations-at, sound-at}
 
@@ -68,7 +69,7 @@ module _ (f : Floor) (z : Sound f) (s round v : ℕ) (h : s < f .m) where
       begin-refused 10 (omega arith) (sym (on-false _ (lt-leb _ _ h) (on-false _ g (on-true _ b refl))))
 
 -- a station that is gone, or that decided
-abbrev isOver : State → Bool
+abbrev pub isOver : State → Bool
 isOver Idle = false
 isOver (Reading a) = false
 isOver (Writing a) = false
@@ -111,12 +112,21 @@ module _ (f : Floor) (l : List (List ℕ)) (new : New f) where
   station-below z s v k d = let o = decider-at f l new s v k d in omega (arith, sound-at f l new z k .stations (o .row) (o .used), o .owner, stations-at f l new k)
 
   -- after its decision a station is over
-  over-since : (s v k i : ℕ) → DecidesAt f l s v k → k < i → isOver (stationAt (floorAt f l i) s .state) ≡ true
+  pub over-since : (s v k i : ℕ) → DecidesAt f l s v k → k < i → isOver (stationAt (floorAt f l i) s .state) ≡ true
   unfolding floorAt stepOf
   over-since s v k zero d h = absurd (omega arith)
   over-since s v k (suc i) d h = elim (up-to h) [
     | inl q ↦ ap (λ (x : Station). isOver (x .state)) (decider-at f l new s v i (subst (DecidesAt f l s v) q d) .settled)
     | inr q ↦ over-stays (apply-station (floorAt f l i) (commandAt l i) s) (over-since s v k i d q)
+  ]
+
+  -- and so after it is gone
+  pub gone-since : (s k i : ℕ) → saidAt f l k ≡ said.Gone s → k < i → isOver (stationAt (floorAt f l i) s .state) ≡ true
+  unfolding floorAt stepOf
+  gone-since s k zero e h = absurd (omega arith)
+  gone-since s k (suc i) e h = elim (up-to h) [
+    | inl q ↦ ap (λ (x : Station). isOver (x .state)) (means-at f l new i (said.Gone s) (ap (saidAt f l) (sym q) ∙ e) .station)
+    | inr q ↦ over-stays (apply-station (floorAt f l i) (commandAt l i) s) (gone-since s k i e q)
   ]
 
   stays : (s v k i : ℕ) → DecidesAt f l s v k → k < i → shownAt f l s i ≡ v

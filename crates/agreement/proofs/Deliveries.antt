@@ -98,7 +98,7 @@ module _ {f : Floor} {l : History} (s : Shows f l) (y : Lengths f) (z : Sound f)
     row-moved e own r seat =
         shows-stored s e (f .boxes) _ (s .paired) (last-stored (f .stations) (rowAt f a .station) t last) y a ha (z .rows-most) w rank own r
         (stations-stored (f .used) (set (f .rows) a w) (f .stations) (rowAt f a .station) t (omega (arith, y .stations, place s a ha))
-        (λ j p. station-kept-by (f .used) (f .used) (f .rows) a w j (stationAt f j .decided) (le-refl (f .used)) (λ _ h. absurd (p (sym h))) (stationAt f j .state) (s .stations j))
+        (λ j p. station-kept-by (f .used) (f .used) (f .rows) a w j (stationAt f j .decided) (le-refl (f .used)) (stationAt f j .state) (λ _ _ h. absurd (p (sym h))) (s .stations j))
         seat)
 
 -- an answer is received without effect

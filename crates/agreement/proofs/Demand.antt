@@ -14,6 +14,7 @@ use Rattle.commands.specs.Commands.{commandOf}
 use Rattle.commands.specs.Outcomes.{isRefused}
 use Rattle.floor.specs.Step.{stepOf}
 use Rattle.attempts.specs.declared.Row.{Row}
+use Rattle.floor.specs.Free.{nextRow}
 use Rattle.floor.specs.declared.Floor.{Floor}
 use Rattle.floor.specs.declared.Stepped.{Stepped}
 use Rattle.commands.specs.declared.Command.{Command}
@@ -22,8 +23,8 @@ use Rattle.commands.specs.declared.Outcome.the-variants as said
 use Rattle.base.proofs.Cases.{clash}
 use Rattle.floor.proofs.StepCases.{StepCase, turned, began, step-case}
 use Rattle.floor.specs.Claims.{Lengths}
-use Rattle.floor.proofs.Keeps.{row-stored}
-use Rattle.floor.proofs.RowLaws.{apply-used, row-same}
+use Rattle.floor.proofs.Keeps.{new-sound, row-stored}
+use Rattle.floor.proofs.RowLaws.{apply-not-begun, row-same}
 use Rattle.solo.specs.Plan.{roundOf, planOf}
 use Rattle.solo.specs.Solo.{soloOf}
 use Rattle.solo.specs.Claims.{Counted, Lawful, Ready, DecidesAlone}
@@ -41,25 +42,24 @@ use Rattle.agreement.proofs.Reach.{New, new-floor}
 use Rattle.agreement.proofs.Positions.{size-at, means-at}
 use Rattle.agreement.proofs.Safety.{decides-at, safety}
 use Rattle.floor.proofs.ListLaws.{floor-behind, said-behind, left-behind, said-taken, left-taken}
-use Rattle.agreement.proofs.Alone.{ready, plan-delivers}
+use Rattle.agreement.proofs.Alone.{ready, plan-delivers, NoBegin, plan-no-begin}
 
--- an accepted begin puts the next row into use, for its station
+-- the row that an accepted begin takes is its station's
 begun-row : {f : Floor} {st : Stepped} (s round v : ℕ) → Lengths f → StepCase f (Begin s round v) st → isRefused (st .outcome) ≡ false
-    → (f .used < st .floor .used) × (rowAt (st .floor) (f .used) .station ≡ s)
+    → rowAt (st .floor) (nextRow f) .station ≡ s
 unfolding newRow
 begun-row s r v y (turned k t) e = clash refl e
-begun-row {f} s r v y (began z d) e = (omega arith, ap (λ (w : Row). w .station) (row-stored f y z (f .used) (newRow (f .n) s r v) (d .row)))
+begun-row {f} s r v y (began z d) e = ap (λ (w : Row). w .station) (row-stored f y z (nextRow f) (newRow (f .n) s r v) (d .row))
 
--- a list that starts with an accepted begin: the row that it put into use stays its station's
-module _ (g : Floor) (y : Lengths g) (l : List (List ℕ)) (s round v : ℕ) (first : commandAt l 0 ≡ Begin s round v) (ok : isRefused (saidAt g l 0) ≡ false) where
-  own-row : (i : ℕ) → (g .used < floorAt g l (suc i) .used) × (rowAt (floorAt g l (suc i)) (g .used) .station ≡ s)
+-- a list that starts with an accepted begin, and has no other: the row that it took stays its station's
+module _ (g : Floor) (y : Lengths g) (l : List (List ℕ)) (s round v : ℕ) (first : commandAt l 0 ≡ Begin s round v) (ok : isRefused (saidAt g l 0) ≡ false)
+    (rest : (i : ℕ) → suc i < length l → NoBegin (getD l (suc i) [])) where
+  own-row : (i : ℕ) → i < length l → rowAt (floorAt g l (suc i)) (nextRow g) .station ≡ s
   unfolding floorAt stepOf
-  own-row zero = begun-row s round v y (subst (λ (c : Command). StepCase g c (stepOf g (getD l 0 []))) first (step-case g (getD l 0 []))) ok
-  own-row (suc i) =
-      let o = own-row i in (
-        omega (arith, apply-used (floorAt g l (suc i)) (commandAt l (suc i)), o .0),
-        row-same (floorAt g l (suc i)) (commandAt l (suc i)) (g .used) (o .0) .station ∙ o .1,
-      )
+  own-row zero h = begun-row s round v y (subst (λ (c : Command). StepCase g c (stepOf g (getD l 0 []))) first (step-case g (getD l 0 []))) ok
+  own-row (suc i) h =
+      row-same (floorAt g l (suc i)) (commandAt l (suc i)) (nextRow g) (apply-not-begun (floorAt g l (suc i)) (commandAt l (suc i)) (rest i h) (nextRow g)) .station
+      ∙ own-row i (omega arith)
 
 module _ (f : Floor) (l : List (List ℕ)) (new : New f) (s v : ℕ) (y : Lawful (floorLeft f l)) (x : Ready (floorLeft f l) s v) (h : v < 4294967296) where
   abbrev g : Floor
@@ -102,6 +102,9 @@ module _ (f : Floor) (l : List (List ℕ)) (new : New f) (s v : ℕ) (y : Lawful
   first-step : commandAt steps 0 ≡ Begin s (roundOf g s) v
   first-step = ap commandOf (step-planned 0 (omega (arith, some)) .1) ∙ plan-begins g s v
 
+  rest-steps : (i : ℕ) → suc i < length steps → NoBegin (getD steps (suc i) [])
+  rest-steps i h = let p = step-planned (suc i) h in subst NoBegin (sym (p .1)) (plan-no-begin g s v i (p .0))
+
   decides : (i : ℕ) → suc i ≡ length steps → DecidesAt f (l ++ steps) s (decided-steps .revision) (length l + i)
   decides i q =
       let e = said-behind f l steps i ∙ last-said i q in
@@ -111,10 +114,10 @@ module _ (f : Floor) (l : List (List ℕ)) (new : New f) (s v : ℕ) (y : Lawful
       let a = plan-delivers g s v i (p .0) (m .attempt) (m .box) (ap commandOf (sym r) ∙ m .answer .command) in
       decides-at f (l ++ steps) new (length l + i) s (decided-steps .revision) (m .attempt) (m .box) (m .answer .command) (m .answer .may .used) (own i q (m .attempt) a) e
     where
-      own : (i : ℕ) → suc i ≡ length steps → (a : ℕ) → a ≡ g .used → rowAt (floorAt f (l ++ steps) (length l + i)) a .station ≡ s
+      own : (i : ℕ) → suc i ≡ length steps → (a : ℕ) → a ≡ nextRow g → rowAt (floorAt f (l ++ steps) (length l + i)) a .station ≡ s
       own zero q a e = absurd (omega (arith, some))
       own (suc i) q a e =
-          rw (floor-behind f l steps (suc i), e) (own-row g (y .lengths) steps s (roundOf g s) v first-step (accepted 0 (omega (arith, some))) i .1)
+          rw (floor-behind f l steps (suc i), e) (own-row g (y .lengths) steps s (roundOf g s) v first-step (accepted 0 (omega (arith, some))) rest-steps i (omega (arith, q)))
 
   alone : DrivenAlone f l s v d
   alone = record {
@@ -134,6 +137,6 @@ module _ (f : Floor) (l : List (List ℕ)) (new : New f) (s v : ℕ) (y : Lawful
 pub demand3 : Demand3Theorem
 demand3 n m l = let f = firstFloor n m in let new = new-floor n m in record {
   safety = safety n m l;
-  solo = λ s v place idle boxes few round offer h.
-      alone f l new s v (after-lawful f l (length l) (new-lawful n m)) (ready f l new s v (length l) place idle (at-least-map (omega arith) (λ b a. a) boxes) (omega arith) round (omega arith)) (omega arith);
+  solo = λ s v place idle boxes row round offer h.
+      alone f l new s v (after-lawful f l (length l) (new-lawful n m)) (ready f l new (new-sound n m) s v (length l) place idle (at-least-map (omega arith) (λ b a. a) boxes) row round (omega arith)) (omega arith);
 }

@@ -6,6 +6,7 @@ use mathlib.Core.Logic.{inl, inr}
 use mathlib.Core.Bool.{Bool, true, false}
 use mathlib.Core.List.{List, _∷_, List·Memᴰ, List·Memᴰ·tail, List·Memᴰ·cases-cons}
 use lib.ListN.{length, getD, set}
+use borrow.Author.Tests.{eq-eqb}
 use Rattle.register.specs.declared.StorageBox.{StorageBox}
 use Rattle.protocol.specs.Trace.{Box, Event, read, nack, issued, took, refused, note}
 use Rattle.protocol.specs.Claims.{Persistent}
@@ -13,7 +14,7 @@ use Rattle.requests.specs.Requests.{slot0, slotAt, heardFrom, slotWaiting, wait
 use Rattle.requests.specs.declared.Slot.{Slot}
 use Rattle.requests.specs.declared.Requests.{Requests}
 use Rattle.register.specs.Register.{box0}
-use Rattle.attempts.specs.Stations.{station0}
+use Rattle.attempts.specs.Stations.{station0, isActive}
 use Rattle.attempts.specs.Rows.{row0, answer0}
 use Rattle.floor.specs.Floors.{boxAt, stationAt, rowAt}
 use Rattle.attempts.specs.declared.State.{State}
@@ -168,21 +169,20 @@ module _ {l : History} (e : Happening) where
     writes = writes-more d (s .writes);
   }
 
--- a row is stored; where the station j owned it, the new one is the station's too, and has written as much
-module _ (used k : ℕ) (rows : List Row) (a : ℕ) (w : Row) (j v : ℕ) (up : used ≤ k)
-    (same : a < used → getD rows a row0 .station ≡ j → (w .station ≡ j) × (w .written ≡ getD rows a row0 .written)) where
-  abbrev Kept : ℕ → Row → Type 0
-  Kept i x = i < used → getD rows i row0 .station ≡ j → (x .station ≡ j) × (x .written ≡ getD rows i row0 .written)
+-- a row is stored; where the station j owned it and is in it, the new one is the station's too, and has written as much
+module _ (used k : ℕ) (rows : List Row) (a : ℕ) (w : Row) (j v : ℕ) (up : used ≤ k) where
+  abbrev Kept : State → ℕ → Row → Type 0
+  Kept p i x = isActive p i ≡ true → i < used → getD rows i row0 .station ≡ j → (x .station ≡ j) × (x .written ≡ getD rows i row0 .written)
 
-  kept : (i : ℕ) → Kept i (getD (set rows a w) i row0)
-  kept = set-all row0 Kept rows a w (λ i h e. (e, refl)) same
+  kept : (p : State) → Kept p a w → (i : ℕ) → Kept p i (getD (set rows a w) i row0)
+  kept p same = set-all row0 (Kept p) rows a w (λ i _ h e. (e, refl)) same
 
-  pub station-kept-by : (p : State) → StationShows used rows j v p → StationShows k (set rows a w) j v p
-  station-kept-by Idle s = tt
-  station-kept-by (Reading i) s = let o = kept i (s .0) (s .1) in (omega (arith, s .0), o .0, o .1 ∙ s .2)
-  station-kept-by (Writing i) s = let o = kept i (s .0) (s .1) in (omega (arith, s .0), o .0, omega (arith, o .1, s .2))
-  station-kept-by (Decided i) s = s
-  station-kept-by Gone s = tt
+  pub station-kept-by : (p : State) → Kept p a w → StationShows used rows j v p → StationShows k (set rows a w) j v p
+  station-kept-by Idle same s = tt
+  station-kept-by (Reading i) same s = let o = kept (Reading i) same i (eq-eqb i i refl) (s .0) (s .1) in (omega (arith, s .0), o .0, o .1 ∙ s .2)
+  station-kept-by (Writing i) same s = let o = kept (Writing i) same i (eq-eqb i i refl) (s .0) (s .1) in (omega (arith, s .0), o .0, omega (arith, o .1, s .2))
+  station-kept-by (Decided i) same s = s
+  station-kept-by Gone same s = tt
 
 -- a station is stored
 pub stations-stored : (used : ℕ) (rows : List Row) (ss : List Station) (t : ℕ) (y : Station) → t < length ss
@@ -200,7 +200,7 @@ module _ {f : Floor} {l : History} (s : Shows f l) (e : Happening) (bs : List St
     (last : (j : ℕ) → getD ss j station0 .last ≡ stationAt f j .last) where
   -- nothing is written, and the rows stay
   pub shows-kept : writerOf e ≡ 0 → ((j : ℕ) → StationShows (f .used) (f .rows) j (getD ss j station0 .decided) (getD ss j station0 .state))
-      → Shows (record { n = f .n; m = f .m; used = f .used; boxes = bs; stations = ss; rows = f .rows }) (e ∷ l)
+      → Shows (record { n = f .n; m = f .m; used = f .used; highest = f .highest; boxes = bs; stations = ss; rows = f .rows }) (e ∷ l)
   shows-kept silent stations = record {
     paired = paired;
     rows = λ a h. row-more e (λ q. omega arith) (s .rows a h);
@@ -221,7 +221,7 @@ module _ {f : Floor} {l : History} (s : Shows f l) (e : Happening) (bs : List St
     not-unbegun r h q = omega (arith, subst (λ (k : ℕ). stationAt f (k % 16) .last < k / 16) (own r q) h, s .begun a ha)
 
     pub shows-stored : RowShows w (e ∷ l) → ((j : ℕ) → StationShows (f .used) (set (f .rows) a w) j (getD ss j station0 .decided) (getD ss j station0 .state))
-        → Shows (record { n = f .n; m = f .m; used = f .used; boxes = bs; stations = ss; rows = set (f .rows) a w }) (e ∷ l)
+        → Shows (record { n = f .n; m = f .m; used = f .used; highest = f .highest; boxes = bs; stations = ss; rows = set (f .rows) a w }) (e ∷ l)
     shows-stored new stations = record {
       paired = paired;
       rows = set-in row0 (λ (k : ℕ) (x : Row). k < f .used → RowShows x (e ∷ l)) (f .rows) a w (omega (arith, y .rows))

@@ -1,7 +1,6 @@
 -- The run by positions: the history before each, the attempt that a row in use belongs to, and what each decision and abort tells.
 use Prim.Native.Nat.{ℕ, zero, suc, _≤_, _<_}
 use native.Mathlib.Nat.{eq-or-lt-of-le}
-use native.Mathlib.Decide.{decLt}
 use native.Mathlib.Omega.{arith}
 use mathlib.Core.Path.{_≡_, refl, sym, ap, subst, _∙_}
 use mathlib.Core.Logic.{inl, inr}
@@ -12,14 +11,12 @@ use Rattle.attempts.specs.Rows.{newRow}
 use Rattle.floor.specs.Step.{stepOf}
 use Rattle.attempts.specs.declared.Row.{Row}
 use Rattle.floor.specs.declared.Floor.{Floor}
-use Rattle.floor.specs.declared.Stepped.{Stepped}
-use Rattle.commands.specs.declared.Command.{Command}
 use Rattle.commands.specs.declared.Outcome.{Outcome}
 use Rattle.commands.specs.declared.Outcome.the-variants as said
 use Rattle.base.proofs.Cases.{up-to}
-use Rattle.floor.proofs.StepCases.{StepCase, turned, began, served, heard, issued, decided, aborted, stopped, left, step-case}
+use Rattle.floor.proofs.StepCases.{StepCase, step-case}
 use Rattle.floor.proofs.Keeps.{step-lengths, step-sizes}
-use Rattle.floor.proofs.RowLaws.{apply-begun, row-same}
+use Rattle.floor.proofs.RowLaws.{apply-in-use, row-same}
 use Rattle.floor.specs.Claims.{Meaning}
 use Rattle.floor.proofs.Outcomes.{step-means}
 use Rattle.agreement.specs.Words.{Before, commandAt, Attempt, attemptRank, Named}
@@ -33,18 +30,6 @@ later x = record { at = x .at; earlier = omega (arith, x .earlier); holds = x .h
 
 pub now : {P : ℕ → Type 0} (i : ℕ) → P i → Before P (suc i)
 now i p = record { at = i; earlier = omega arith; holds = p }
-
--- a row that is in use after a step and was not before was begun by it
-begun-then : {f : Floor} {c : Command} {s : Stepped} → StepCase f c s → (a : ℕ) → ¬ (a < f .used) → a < s .floor .used → s .outcome ≡ said.Begun a
-begun-then (turned k t) a h u = absurd (h u)
-begun-then {f} (began z d) a h u = let e : f .used ≡ a = omega arith in ap said.Begun e
-begun-then (served z d) a h u = absurd (h u)
-begun-then (heard z d q) a h u = absurd (h u)
-begun-then (issued z d r q t) a h u = absurd (h u)
-begun-then (decided z d r q t) a h u = absurd (h u)
-begun-then (aborted z d r q t) a h u = absurd (h u)
-begun-then (stopped z d) a h u = absurd (h u)
-begun-then (left z d) a h u = absurd (h u)
 
 module _ (f : Floor) (l : List (List ℕ)) where
   case-at : (i : ℕ) → StepCase (floorAt f l i) (commandAt l i) (stepOf (floorAt f l i) (getD l i []))
@@ -116,19 +101,8 @@ module _ (f : Floor) (l : List (List ℕ)) where
     pub row-at : (i a : ℕ) → a < floorAt f l i .used → RowOf i a
     unfolding floorAt stepOf newRow
     row-at zero a h = absurd (omega (arith, new .unused))
-    row-at (suc i) a h = elim (decLt a (floorAt f l i .used)) [
-      | yes u ↦ (
-          let o = row-at i a u in
-          let k = row-same (floorAt f l i) (commandAt l i) a u in
-          record {
-            attempt = o .attempt;
-            number = o .number;
-            named = named-more (λ e. omega (arith, apply-begun (floorAt f l i) (commandAt l i) (o .attempt .number) e, o .number)) (o .named);
-            station = o .station ∙ sym (k .station);
-            rank = o .rank ∙ sym (k .rank);
-          })
-      | no u ↦ (
-          let e = begun-then (case-at i) a u h in
+    row-at (suc i) a h = elim (apply-in-use (floorAt f l i) (commandAt l i) a h) [
+      | inl e ↦ (
           let b = means-at i (said.Begun a) e in
           let r = ap (rowAt (floorAt f l (suc i))) (b .next) ∙ b .row in
           record {
@@ -137,5 +111,15 @@ module _ (f : Floor) (l : List (List ℕ)) where
             named = record { earlier = omega arith; last = λ k p q. absurd (omega arith) };
             station = sym (ap (λ (w : Row). w .station) r);
             rank = sym (ap (λ (w : Row). w .rank) r);
+          })
+      | inr u ↦ (
+          let o = row-at i a (u .0) in
+          let k = row-same (floorAt f l i) (commandAt l i) a (u .1) in
+          record {
+            attempt = o .attempt;
+            number = o .number;
+            named = named-more (λ e. u .1 (e ∙ ap said.Begun (o .number))) (o .named);
+            station = o .station ∙ sym (k .station);
+            rank = o .rank ∙ sym (k .rank);
           })
     ]

@@ -151,6 +151,7 @@ cause (left z d) = tt
 pub record New (f : Floor) : Type 0 where
   pub lengths : Lengths f
   pub unused : f .used ≡ 0
+  pub highest : f .highest ≡ 0
   pub boxes : (b : ℕ) → boxAt f b ≡ box0
   pub stations : (j : ℕ) → stationAt f j ≡ station0
 
@@ -159,7 +160,7 @@ unfolding newFloorOf
 new-floor n m = by-test (λ (x : NewFloor). New (x .floor)) (sizesRight n m) _ _ (λ _. empty n m) (λ _. empty 1 1)
   where
     empty : (n m : ℕ) → New (emptyFloor n m)
-    empty n m = record { lengths = empty-lengths n m; unused = refl; boxes = λ b. getD-same 9 b box0; stations = λ j. getD-same 16 j station0 }
+    empty n m = record { lengths = empty-lengths n m; unused = refl; highest = refl; boxes = λ b. getD-same 9 b box0; stations = λ j. getD-same 16 j station0 }
 
 pub new-reached : {f : Floor} → New f → Reached f []
 new-reached {f} x = record {

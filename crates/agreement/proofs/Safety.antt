@@ -37,14 +37,14 @@ use Rattle.agreement.proofs.Positions.{later, now, history, caused, sti
 
 module _ (f : Floor) (l : List (List ℕ)) where
   -- one number names one attempt
-  one-attempt : {i : ℕ} (x y : Attempt f l) → Named f l x i → Named f l y i → x .number ≡ y .number → x .station ≡ y .station
-  one-attempt x y n m e = cc (x .asked, y .asked, ap (commandAt l) at)
-    where
-      at : x .at ≡ y .at
-      at = elim (decLt (x .at) (y .at)) [
-        | yes h ↦ absurd (n .last (y .at) h (m .earlier) (y .begun ∙ ap said.Begun (sym e)))
-        | no h ↦ elim (decLt (y .at) (x .at)) [ yes k ↦ absurd (m .last (x .at) k (n .earlier) (x .begun ∙ ap said.Begun e)) | no k ↦ omega arith ]
-      ]
+  pub one-begin : {i : ℕ} (x y : Attempt f l) → Named f l x i → Named f l y i → x .number ≡ y .number → x .at ≡ y .at
+  one-begin x y n m e = elim (decLt (x .at) (y .at)) [
+    | yes h ↦ absurd (n .last (y .at) h (m .earlier) (y .begun ∙ ap said.Begun (sym e)))
+    | no h ↦ elim (decLt (y .at) (x .at)) [ yes k ↦ absurd (m .last (x .at) k (n .earlier) (x .begun ∙ ap said.Begun e)) | no k ↦ omega arith ]
+  ]
+
+  pub one-attempt : {i : ℕ} (x y : Attempt f l) → Named f l x i → Named f l y i → x .number ≡ y .number → x .station ≡ y .station
+  one-attempt x y n m e = cc (x .asked, y .asked, ap (commandAt l) (one-begin x y n m e))
 
   -- a revision is chosen before the step at i
   abbrev ChosenAt : ℕ → ℕ → ℕ → Type 0

@@ -58,7 +58,7 @@ boxes-paired {f} s b x p = set-all box0 (λ (j : ℕ) (c : StorageBox). Paired (
 pub stations-kept : {f : Floor} {l : History} → Shows f l → (a : ℕ) (w : Row) → w .station ≡ rowAt f a .station → w .written ≡ rowAt f a .written → (j : ℕ)
     → StationShows (f .used) (set (f .rows) a w) j (stationAt f j .decided) (stationAt f j .state)
 stations-kept {f} s a w p q j =
-    station-kept-by (f .used) (f .used) (f .rows) a w j (stationAt f j .decided) (le-refl (f .used)) (λ _ h. (p ∙ h, q)) (stationAt f j .state) (s .stations j)
+    station-kept-by (f .used) (f .used) (f .rows) a w j (stationAt f j .decided) (le-refl (f .used)) (stationAt f j .state) (λ _ _ h. (p ∙ h, q)) (s .stations j)
 
 -- the read of rank r was served at the box b: answered, or told that it is outranked
 abbrev pub askedEvent : ReadAnswer → ℕ → ℕ → Happening

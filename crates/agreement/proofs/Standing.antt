@@ -1,18 +1,24 @@
 -- What the floor before a position is like, read off the list: rows in use, stopped boxes, and what a solo finish asks of its
 -- station.
-use Prim.Native.Nat.{ℕ, zero, suc, _<_}
+use Prim.Native.Nat.{ℕ, zero, suc, _<_, _≤_, max}
 use native.Mathlib.Omega.{arith}
 use mathlib.Core.Path.{_≡_, refl, sym, ap, subst, _∙_}
 use mathlib.Core.Logic.{_⊎_, inl, inr}
 use mathlib.Core.Bool.{true}
 use mathlib.Core.List.{List, []}
+use native.Mathlib.Decide.{decLt}
 use lib.ListN.{getD}
 use borrow.Author.Tests.{eqb-true, eq-eqb}
 use Rattle.base.specs.Numbers.{rankOf}
 use Rattle.register.specs.declared.StorageBox.{StorageBox}
-use Rattle.base.specs.Quorum.{count}
+use Rattle.base.specs.Quorum.{count, indicator}
+use Rattle.base.proofs.Choices.{on-true, on-false}
 use Rattle.floor.specs.Floors.{boxAt, stationAt, rowAt}
-use Rattle.attempts.specs.Stations.{isGone}
+use Rattle.attempts.specs.Stations.{isGone, isActive}
+use Rattle.attempts.proofs.UsedLaws.{used-more, used-full}
+use Rattle.commands.specs.Outcomes.{isBegun}
+use Rattle.commands.specs.declared.Command.the-variants.{Begin}
+use Rattle.floor.specs.Free.{nextRow}
 use Rattle.floor.specs.Claims.{Sound}
 use Rattle.floor.specs.Step.{stepOf}
 use Rattle.attempts.specs.declared.State.{State}
@@ -20,12 +26,13 @@ use Rattle.attempts.specs.declared.State.the-variants.{Idle, Reading, Writing, 
 use Rattle.attempts.specs.declared.Station.{Station}
 use Rattle.floor.specs.declared.Floor.{Floor}
 use Rattle.commands.specs.declared.Outcome.the-variants as said
-use Rattle.base.proofs.Cases.{clash, up-to}
+use Rattle.base.proofs.Cases.{clash, by-cases, up-to}
 use Rattle.floor.proofs.Keeps.{step-keeps, step-sizes}
-use Rattle.floor.proofs.RowLaws.{apply-used}
+use Rattle.floor.proofs.RowLaws.{apply-used, apply-highest}
 use Rattle.floor.proofs.BoxLaws.{stopped-stays, stopped-from}
-use Rattle.floor.proofs.StationLaws.{isActive, gone-from, active-from}
-use Rattle.agreement.specs.Words.{Before, commandAt, Attempt, Named, AbortsAt, IdleAt, attemptsBefore, RoundLeft}
+use Rattle.floor.proofs.StationLaws.{gone-from, active-from}
+use Rattle.agreement.specs.Words.{Before, commandAt, Attempt, attemptRank, Named, AbortsAt, IdleAt, attemptsBefore, RoundLeft}
+use Rattle.agreement.specs.GivenBack.{HighestAt}
 use Rattle.floor.specs.Runs.{floorAt, saidAt}
 use Rattle.agreement.proofs.History.{History, StationShows, Shows}
 use Rattle.agreement.proofs.Reach.{New}
@@ -43,6 +50,10 @@ own-row {f} s j a = go (stationAt f j .state) (s .stations j)
     go (Decided x) q e = clash e refl
     go Gone q e = clash e refl
 
+-- the larger of two is one of them
+max-choice : (m n : ℕ) → (max m n ≡ m) ⊎ (max m n ≡ n)
+max-choice m n = elim (decLt m n) [ yes h ↦ inr (omega arith) | no h ↦ inl (omega arith) ]
+
 module _ (f : Floor) (l : List (List ℕ)) (new : New f) where
   -- the number of stations stays, and a sound floor stays sound
   pub stations-at : (i : ℕ) → floorAt f l i .m ≡ f .m
@@ -55,11 +66,23 @@ module _ (f : Floor) (l : List (List ℕ)) (new : New f) where
   sound-at z zero = z
   sound-at z (suc i) = step-keeps (floorAt f l i) (getD l i []) (sound-at z i)
 
-  -- as many rows are in use as begins were accepted
-  pub used-at : (i : ℕ) → floorAt f l i .used ≡ attemptsBefore f l i
+  -- as many rows are in use as begins were accepted, up to 64
+  pub used-at : (i : ℕ) → ((attemptsBefore f l i ≤ 64) × (floorAt f l i .used ≡ attemptsBefore f l i)) ⊎ ((64 < attemptsBefore f l i) × (floorAt f l i .used ≡ 64))
   unfolding floorAt stepOf count
-  used-at zero = new .unused
-  used-at (suc i) = omega (arith, apply-used (floorAt f l i) (commandAt l i), used-at i)
+  used-at zero = inl (omega arith, new .unused)
+  used-at (suc i) =
+      by-cases (isBegun (saidAt f l i))
+      (λ e. let u = apply-used (floorAt f l i) (commandAt l i) ∙ sym (on-true _ e refl) in let k = ap indicator e in elim (used-at i) [
+        | inl o ↦ elim (decLt (floorAt f l i .used) 64) [
+          | yes h ↦ inl (omega (arith, o .1), omega (arith, u, o .1, used-more (floorAt f l i .used) h))
+          | no h ↦ inr (omega (arith, o .1), omega (arith, u, o .0, o .1, used-full (floorAt f l i .used) (omega arith)))
+        ]
+        | inr o ↦ inr (omega (arith, o .0), omega (arith, u, o .1, used-full (floorAt f l i .used) (omega (arith, o .1))))
+      ])
+      (λ e. let u = apply-used (floorAt f l i) (commandAt l i) ∙ sym (on-false _ e refl) in let k = ap indicator e in elim (used-at i) [
+        | inl o ↦ inl (omega (arith, o .0), omega (arith, u, o .1))
+        | inr o ↦ inr (omega (arith, o .0), omega (arith, u, o .1))
+      ])
 
   -- a box is stopped exactly where an accepted step stopped it
   pub stopped-before : (b i : ℕ) → boxAt (floorAt f l i) b .stopped ≡ true → Before (λ k. saidAt f l k ≡ said.Stopped b) i
@@ -99,7 +122,7 @@ module _ (f : Floor) (l : List (List ℕ)) (new : New f) where
   ]
 
   -- an attempt that its station is in has not aborted
-  not-aborted : (j i k : ℕ) (x : Attempt f l) → isActive (stationAt (floorAt f l i) j .state) (x .number) ≡ true → Named f l x i → k < i → ¬ AbortsAt f l x k
+  pub not-aborted : (j i k : ℕ) (x : Attempt f l) → isActive (stationAt (floorAt f l i) j .state) (x .number) ≡ true → Named f l x i → k < i → ¬ AbortsAt f l x k
   not-aborted j zero k x e n h b = omega arith
   not-aborted j (suc i) k x e n h b = elim (still-in j (x .number) i e) [
     | inl o ↦ elim (up-to h) [
@@ -130,6 +153,45 @@ module _ (f : Floor) (l : List (List ℕ)) (new : New f) where
     pub idle-state : stationAt (floorAt f l i) s .state ≡ Idle
     idle-state = idle-as (stationAt (floorAt f l i) s .state) refl
 
-  -- a round left outranks every row in use
-  pub round-outranks : (s i : ℕ) (r : RoundLeft f l s i) (a : ℕ) → a < floorAt f l i .used → rowAt (floorAt f l i) a .rank < rankOf (r .round) s
-  round-outranks s i r a h = let o = row-at f l new i a h in omega (arith, r .outranks (o .attempt) (o .named .earlier), o .rank)
+  -- the floor keeps the highest rank begun
+  highest-some : (i : ℕ) → (floorAt f l i .highest ≡ 0) ⊎ ((x : Attempt f l) × (x .at < i) × (attemptRank f l x ≡ floorAt f l i .highest))
+  unfolding floorAt stepOf
+  highest-some zero = inl (new .highest)
+  highest-some (suc i) = elim (apply-highest (floorAt f l i) (commandAt l i)) [
+    | inl e ↦ elim (highest-some i) [ inl z ↦ inl (e ∙ z) | inr o ↦ inr (o .0, omega (arith, o .1), o .2 ∙ sym e) ]
+    | inr r ↦ (
+        let x : Attempt f l = record { at = i; station = r .station; round = r .round; offer = r .offer; number = nextRow (floorAt f l i); asked = r .command; begun = r .outcome } in
+        elim (max-choice (floorAt f l i .highest) (attemptRank f l x)) [
+          | inl e ↦ elim (highest-some i) [
+            | inl z ↦ inl (r .highest ∙ e ∙ z)
+            | inr o ↦ inr (o .0, omega (arith, o .1), o .2 ∙ sym (r .highest ∙ e))
+          ]
+          | inr e ↦ inr (x, omega arith, sym (r .highest ∙ e))
+        ])
+  ]
+
+  highest-up : (i : ℕ) → floorAt f l i .highest ≤ floorAt f l (suc i) .highest
+  unfolding floorAt stepOf
+  highest-up i = elim (apply-highest (floorAt f l i) (commandAt l i)) [ inl e ↦ omega (arith, e) | inr r ↦ omega (arith, r .highest) ]
+
+  highest-each : (i : ℕ) (x : Attempt f l) → x .at < i → attemptRank f l x ≤ floorAt f l i .highest
+  highest-each zero x h = absurd (omega arith)
+  highest-each (suc i) x h = elim (up-to h) [
+    | inl q ↦ (
+        let b = means-at f l new i (said.Begun (x .number)) (ap (saidAt f l) (sym q) ∙ x .begun) in
+        let c : Begin (x .station) (x .round) (x .offer) ≡ Begin (b .station) (b .round) (b .offer) = sym (x .asked) ∙ ap (commandAt l) q ∙ b .command in
+        let s : x .station ≡ b .station = cc in
+        let r : x .round ≡ b .round = cc in
+        omega (arith, b .highest))
+    | inr q ↦ omega (arith, highest-each i x q, highest-up i)
+  ]
+
+  pub highest-at : (i : ℕ) → HighestAt f l (floorAt f l i .highest) i
+  highest-at i = record { each = highest-each i; some = highest-some i }
+
+  -- a round left outranks the highest rank begun
+  pub round-outranks : (s i : ℕ) (r : RoundLeft f l s i) → floorAt f l i .highest < rankOf (r .round) s
+  round-outranks s i r = elim (highest-some i) [
+    | inl z ↦ omega (arith, r .least)
+    | inr o ↦ omega (arith, r .outranks (o .0) (o .1), o .2)
+  ]

@@ -91,7 +91,7 @@ module _ {f : Floor} (h : FloorFits f) {c : Command} (k : Fielded c) (j : ℕ) w
       let q = subst Fielded e k in
       record { rank = omega (arith, q .0, q .1); offer = q .2; written = omega arith; answers = λ i. rw (getD-same 9 i answer0) (omega arith, omega arith) }
   row-fits (row-served {p} {b} e d) = served-fits p b (h .rows j) (h .boxes b)
-  row-fits (row-heard {p} {b} e d) = heard-fits p b (h .rows j)
+  row-fits (row-heard {p} {b} e d _) = heard-fits p b (h .rows j)
   row-fits (row-issues {b} {v} e d r q u t) =
       let w = heard-fits Read b (h .rows j) in
       record { rank = w .rank; offer = w .offer; written = subst (λ (u : ℕ). u < 2 ^ 32) (sym t) (revision-fits (heardRow f Read j b) (f .n) w); answers = w .answers }

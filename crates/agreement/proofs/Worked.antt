@@ -12,7 +12,7 @@ use Rattle.base.specs.Choice.{if_then_else_}
 use Rattle.base.specs.Numbers.{sizesRight}
 use Rattle.base.specs.Mask.{bit, setBit, countBelow}
 use Rattle.base.specs.Quorum.{count}
-use Rattle.base.proofs.Cases.{by-cases, up-to}
+use Rattle.base.proofs.Cases.{clash, by-cases, up-to}
 use Rattle.base.proofs.Choices.{on-true, on-false, both-true}
 use Rattle.register.specs.Register.{outranks, rmwRead, rmwWrite, takes}
 use Rattle.requests.specs.Requests.{standing, waitingBelow, atQuorum, stillYes, allYes, readVerdict, writeVerdict}
@@ -20,7 +20,8 @@ use Rattle.requests.specs.declared.Phase.the-variants.{Read, Write}
 use Rattle.floor.specs.Sound.{stationsBelow, soundOf}
 use Rattle.floor.specs.Floors.{newFloorOf}
 use Rattle.commands.specs.Commands.{allZero, spared, commandOf}
-use Rattle.attempts.specs.Rows.{newRow, better, bestOf, revisionFrom, revisionOf, issued}
+use Rattle.floor.specs.Free.{stillServed, allServed, freeIn, isFree, nextRow}
+use Rattle.attempts.specs.Rows.{newRow, waitsAt, usedAfter, better, bestOf, revisionFrom, revisionOf, issued}
 use Rattle.floor.specs.Refusals.{beginRefusal, serveRefusal, deliverRefusal, stopRefusal}
 use Rattle.floor.specs.Effects.{deliveredOn}
 use Rattle.floor.specs.Step.{playOf, applyOf, stepOf}
@@ -28,10 +29,11 @@ use Rattle.commands.specs.declared.Command.the-variants.{Begin, Serve, Deliver}
 use Rattle.commands.specs.declared.Outcome.{Outcome}
 use Rattle.commands.specs.declared.Outcome.the-variants as said
 use Rattle.solo.specs.Solo.{soloOf}
-use Rattle.agreement.specs.Words.{commandAt, Attempt, ServedAt, DecidesAt, AbortsAt, OutrankedAt, shownAt, IdleAt, attemptsBefore}
+use Rattle.agreement.specs.Words.{commandAt, Attempt, ServedAt, DecidesAt, AbortsAt, OutrankedAt, shownAt, IdleAt, attemptsBefore, unused}
 use Rattle.floor.specs.Runs.{floorAt, floorLeft, saidAt}
 use Rattle.agreement.specs.Demand.{DrivenAlone}
-use Rattle.agreement.specs.Worked.{exampleI, stops, outrankedRead, three, five, heldAt, Worked}
+use Rattle.agreement.specs.Worked.{single, one, exampleI, stops, outrankedRead, three, five, heldAt, Worked}
+use Rattle.agreement.proofs.GivenBack.{given-back}
 use Rattle.agreement.proofs.Demand.{demand3}
 use Rattle.agreement.proofs.Consequences.{consequences}
 
@@ -76,6 +78,8 @@ record Computed : Type 0 where
   begins : commandAt exampleI 5 ≡ Begin 1 1 9
   begun : saidAt three exampleI 5 ≡ said.Begun 1
   told : (commandAt outrankedRead 4 ≡ Deliver Read 0 0) × (saidAt three outrankedRead 4 ≡ said.Aborted 0)
+  freed : (0 < floorAt one single 5 .used) × (isFree (floorAt one single 5) 0 ≡ true)
+  unfreed : isFree (floorAt one single 4) 0 ≡ false
   stop0 : saidAt five stops 0 ≡ said.Stopped 0
   stop1 : saidAt five stops 1 ≡ said.Stopped 1
   sizes : (five .n ≡ 5) × (five .m ≡ 1)
@@ -89,7 +93,7 @@ record Computed : Type 0 where
   all : (three .n ≡ 3) × (three .m ≡ 2) × (count (λ b. true) 3 ≡ 3)
 
 computed : Computed
-unfolding floorAt count asExpected expected if_then_else_ sizesRight newFloorOf stepOf applyOf playOf soundOf stationsBelow commandOf allZero spared beginRefusal serveRefusal deliverRefusal stopRefusal standing bit setBit countBelow ones onesIn atQuorum newRow waitingBelow outranks rmwRead rmwWrite takes deliveredOn better bestOf revisionFrom revisionOf issued stillYes allYes readVerdict writeVerdict
+unfolding floorAt count asExpected expected if_then_else_ sizesRight newFloorOf stepOf applyOf playOf soundOf stationsBelow commandOf allZero spared beginRefusal serveRefusal deliverRefusal stopRefusal standing bit setBit countBelow ones onesIn atQuorum newRow nextRow usedAfter freeIn allServed stillServed waitsAt waitingBelow outranks rmwRead rmwWrite takes deliveredOn better bestOf revisionFrom revisionOf issued stillYes allYes readVerdict writeVerdict
 computed = record {
   decided = refl;
   aborted = refl;
@@ -103,6 +107,8 @@ computed = record {
   begins = refl;
   begun = refl;
   told = (refl, refl);
+  freed = (omega arith, refl);
+  unfreed = refl;
   stop0 = refl;
   stop1 = refl;
   sizes = (refl, refl);
@@ -160,7 +166,7 @@ alone v p q =
       large = rw (computed .sizes .0) (omega (arith, computed .enough));
       each = λ b h t x. (let o = only-stops (x .at) _ (x .earlier) (x .holds) in let e : b ≡ o .0 = cc (o .2) in omega (arith, leb-true 2 b t, o .1));
     })
-    (omega (arith, computed .begun-none))
+    (unused (omega (arith, computed .begun-none)))
     (record { round = 1; least = omega arith; most = omega arith; outranks = λ x h. absurd (no-attempt x h) })
     p q
 
@@ -239,7 +245,7 @@ alone-behind : (v : ℕ) → 0 < v → v < 4294967296 → DrivenAlone three exam
 alone-behind v p q =
     demand3 3 2 exampleI .solo 0 v (omega (arith, computed .all .1)) idle-behind
     (record { set = λ b. true; large = rw (computed .all .0) (omega (arith, computed .all .2)); each = λ b h t x. nobody-left (x .at) (x .earlier) (said.Stopped b) refl (x .holds) })
-    (omega (arith, computed .attempts))
+    (unused (omega (arith, computed .attempts)))
     (record {
       round = 2;
       least = omega arith;
@@ -255,6 +261,8 @@ worked = record {
   outranked = outranked;
   told = computed .told;
   outranked-read = outranked-read;
+  free = given-back 1 1 single .free 0 5 (computed .freed .0) (computed .freed .1);
+  not-free = λ x. clash (given-back 1 1 single .free-holds 0 4 x .1) (computed .unfreed);
   alone = alone;
   thirteen = thirteen;
   idle-behind = idle-behind;

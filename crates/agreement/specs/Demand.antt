@@ -15,7 +15,7 @@ use Rattle.commands.specs.declared.Outcome.the-variants as said
 use Rattle.solo.specs.Solo.{soloOf}
 use Rattle.base.specs.Records.{AllRecords}
 use Rattle.solo.specs.declared.Solo.{Solo}
-use Rattle.agreement.specs.Words.{Before, commandAt, OfferedAt, DecidesAt, OutrankedAt, ShownAt, Answering, IdleAt, attemptsBefore, RoundLeft}
+use Rattle.agreement.specs.Words.{Before, commandAt, OfferedAt, DecidesAt, OutrankedAt, ShownAt, Answering, IdleAt, RowLeft, RoundLeft}
 use Rattle.floor.specs.Runs.{floorLeft, saidAt}
 
 -- "It .. starts from a new floor of any n and m." Where they are out of range that is the floor of one box and one station.
@@ -56,13 +56,13 @@ pub record DrivenAlone (f : Floor) (l : List (List ℕ)) (s v : ℕ) (d : Solo) 
 pub record Demand3 (n m : ℕ) (l : List (List ℕ)) : Type 0 where
   pub safety : Safety n m l
   -- "On any floor so reached, given q answering boxes, q being a majority of all boxes, fewer than 64 attempts, and a round left that
-  -- outranks every attempt begun, an idle station driven alone, whatever revision it offers, decides in exactly 4q + 1 steps." A
-  -- revision is "a 32-bit number other than 0".
+  -- outranks every attempt begun, an idle station driven alone, whatever revision it offers, decides in exactly 4q + 1 steps." Wish 5 of
+  -- document 02 has "an unused or free row" for "fewer than 64 attempts". A revision is "a 32-bit number other than 0".
   pub solo : (s v : ℕ)
       → s < firstFloor n m .m
       → IdleAt (firstFloor n m) l s (length l)
       → AtLeast (quorum (firstFloor n m .n)) (firstFloor n m .n) (Answering (firstFloor n m) l (length l))
-      → attemptsBefore (firstFloor n m) l (length l) < 64
+      → RowLeft (firstFloor n m) l (length l)
       → RoundLeft (firstFloor n m) l s (length l)
       → 0 < v
       → v < 4294967296

@@ -3,15 +3,16 @@
 -- the floor before a step and what the step said.
 use Prim.Native.Nat.{ℕ, _≤_, _<_}
 use mathlib.Core.Path.{_≡_}
+use mathlib.Core.Bool.{false}
 use mathlib.Core.List.{List, []}
 use lib.ListN.{getD}
 use Rattle.base.specs.Numbers.{rankOf}
 use Rattle.base.specs.Quorum.{count}
 use Rattle.requests.specs.declared.Phase.{Phase}
-use Rattle.requests.specs.declared.Phase.the-variants.{Write}
+use Rattle.requests.specs.declared.Phase.the-variants.{Read, Write}
 use Rattle.floor.specs.Floors.{stationAt}
 use Rattle.commands.specs.Commands.{commandOf}
-use Rattle.commands.specs.Outcomes.{isBegun}
+use Rattle.commands.specs.Outcomes.{isRefused, isBegun}
 use Rattle.floor.specs.Runs.{floorAt, saidAt}
 use Rattle.floor.specs.declared.Floor.{Floor}
 use Rattle.commands.specs.declared.Command.{Command}
@@ -113,6 +114,59 @@ module _ (f : Floor) (l : List (List ℕ)) where
   -- how many attempts were begun before the step at i
   abbrev pub attemptsBefore : (i : ℕ) → ℕ
   attemptsBefore i = count (λ k. isBegun (saidAt f l k)) i
+
+  -- Wish 5 of document 02. "An attempt is over when its station no longer reads or writes in it: decided, aborted or gone." The attempt x
+  -- decides.
+  pub record DecidesBy (x : Attempt) (i : ℕ) : Type 0 where
+    pub named : Named x i
+    pub box : ℕ
+    pub revision : ℕ
+    pub asked : commandAt l i ≡ Deliver Write (x .number) box
+    pub accepted : saidAt f l i ≡ said.Decided revision
+
+  -- before the step at i
+  pub data OverAt (x : Attempt) (i : ℕ) : Type 0 where
+    decided : Before (DecidesBy x) i → OverAt x i
+    aborted : Before (AbortsAt x) i → OverAt x i
+    gone : Before (λ k. saidAt f l k ≡ said.Gone (x .station)) i → OverAt x i
+
+  -- the read or the write of the attempt x is served at the box b, and its answer from there is delivered
+  pub record ServesAt (x : Attempt) (phase : Phase) (b i : ℕ) : Type 0 where
+    pub named : Named x i
+    pub asked : commandAt l i ≡ Serve phase (x .number) b
+    pub accepted : saidAt f l i ≡ said.Served (x .number)
+
+  pub record DeliversAt (x : Attempt) (phase : Phase) (b i : ℕ) : Type 0 where
+    pub named : Named x i
+    pub asked : commandAt l i ≡ Deliver phase (x .number) b
+    pub accepted : isRefused (saidAt f l i) ≡ false
+
+  -- its write is issued, at the delivery that says so
+  pub record IssuesAt (x : Attempt) (i : ℕ) : Type 0 where
+    pub named : Named x i
+    pub box : ℕ
+    pub revision : ℕ
+    pub asked : commandAt l i ≡ Deliver Read (x .number) box
+    pub accepted : saidAt f l i ≡ said.WriteIssued revision
+
+  -- "Its row is free once it is over and its issued requests are served at every box not stopped": its read, and its write if one was
+  -- issued, at every box that no accepted step stopped
+  pub record FreedAt (x : Attempt) (i : ℕ) : Type 0 where
+    pub over : OverAt x i
+    pub reads : (b : ℕ) → b < f .n → Answering i b → Before (ServesAt x Read b) i
+    pub writes : Before (IssuesAt x) i → (b : ℕ) → b < f .n → Answering i b → Before (ServesAt x Write b) i
+
+  -- the number a means an attempt whose row is free
+  pub record FreeAt (a i : ℕ) : Type 0 where
+    pub attempt : Attempt
+    pub number : attempt .number ≡ a
+    pub named : Named attempt i
+    pub freed : FreedAt attempt i
+
+  -- "the solo finish asks for an unused or free row"
+  pub data RowLeft (i : ℕ) : Type 0 where
+    unused : attemptsBefore i < 64 → RowLeft i
+    free : (a : ℕ) → FreeAt a i → RowLeft i
 
   -- "a round left that outranks every attempt begun", by the station s
   pub record RoundLeft (s i : ℕ) : Type 0 where

@@ -1,4 +1,4 @@
--- Document 01's examples I and J, and a read that is outranked, in the words of demand 3, so that the claim is not about nothing. The proof
+-- Document 01's examples I and J, a read that is outranked, and a row that is free, in the words of demand 3, so that the claim is not about nothing. The proof
 -- is `worked` in proofs/Worked.
 use Prim.Native.Nat.{ℕ, _<_}
 use mathlib.Core.Path.{_≡_}
@@ -12,7 +12,7 @@ use Rattle.floor.specs.Floors.{boxAt}
 use Rattle.floor.specs.Runs.{floorLeft, saidAt}
 use Rattle.floor.specs.declared.Floor.{Floor}
 use Rattle.solo.specs.Solo.{soloOf}
-use Rattle.agreement.specs.Words.{commandAt, ServedAt, DecidesAt, OutrankedAt, IdleAt}
+use Rattle.agreement.specs.Words.{commandAt, ServedAt, DecidesAt, OutrankedAt, IdleAt, FreeAt}
 use Rattle.agreement.specs.Demand.{firstFloor, DrivenAlone}
 
 -- "I: n = 3. Attempt 0 (rank 16, 7) has read at boxes 0 and 1. Attempt 1 (rank 17, 9) reads and writes at 1 and 2 and decides 9.
@@ -35,6 +35,13 @@ abbrev pub outrankedRead : List (List ℕ)
 outrankedRead =
     encodeOf (Begin 0 1 7) ∷ encodeOf (Begin 1 1 9) ∷ encodeOf (Serve Read 1 0) ∷ encodeOf (Serve Read 0 0) ∷ encodeOf (Deliver Read 0 0) ∷ []
 
+-- Wish 5: an attempt on one box that decides, with nothing of it waiting then.
+abbrev pub single : List (List ℕ)
+single = encodeOf (Begin 0 1 7) ∷ encodeOf (Serve Read 0 0) ∷ encodeOf (Deliver Read 0 0) ∷ encodeOf (Serve Write 0 0) ∷ encodeOf (Deliver Write 0 0) ∷ []
+
+abbrev pub one : Floor
+one = firstFloor 1 1
+
 abbrev pub three : Floor
 three = firstFloor 3 2
 
@@ -53,6 +60,9 @@ pub record Worked : Type 0 where
   -- wish 2: attempt 0 aborts at its first read answer, and before that a rank above its own was served
   pub told : (commandAt outrankedRead 4 ≡ Deliver Read 0 0) × (saidAt three outrankedRead 4 ≡ said.Aborted 0)
   pub outranked-read : OutrankedAt three outrankedRead 4
+  -- wish 5: behind its decision the row of attempt 0 is free, and before it is not, though all its requests are served
+  pub free : FreeAt one single 0 5
+  pub not-free : ¬ FreeAt one single 0 4
   -- J: with 2 of 5 boxes stopped, whatever revision station 0 offers
   pub alone : (v : ℕ) → 0 < v → v < 4294967296 → DrivenAlone five stops 0 v (soloOf (floorLeft five stops) 0 v)
   pub thirteen : (v : ℕ) → 0 < v → v < 4294967296 → soloOf (floorLeft five stops) 0 v .steps ≡ 13

@@ -1,5 +1,6 @@
 pub mod Answers
 pub mod Past
 pub mod StationTests
+pub mod UsedLaws
 pub mod WaitingLaws
 pub mod Claims

@@ -1,5 +1,5 @@
 -- The row of an attempt: Figure 4's gathering of answers, and the choice of Figure 1.
-use Prim.Native.Nat.{ℕ, zero, suc}
+use Prim.Native.Nat.{ℕ, zero, suc, _+_}
 use mathlib.Core.List.{List, []}
 use mathlib.Core.Bool.{Bool, true, false}
 use lib.ListN.{getD, set, replicate}
@@ -9,7 +9,7 @@ use Rattle.base.specs.Numbers.{rankOf}
 use Rattle.register.specs.Register.{isHeld, rankIn, valueIn, holdsNothing, rmwRead, rmwWrite}
 use Rattle.register.specs.declared.Register.{Register}
 use Rattle.register.specs.declared.ReadDone.{ReadDone}
-use Rattle.requests.specs.Requests.{ofPhase, requests0, noneIssued, heardFrom, issuedTo, servedAt, receivedFrom}
+use Rattle.requests.specs.Requests.{ofPhase, requests0, noneIssued, heardFrom, standingOf, isWaiting, issuedTo, servedAt, receivedFrom}
 use Rattle.requests.specs.declared.Phase.{Phase}
 use Rattle.requests.specs.declared.Requests.{Requests}
 use Rattle.attempts.specs.declared.rows.Best.{Best}
@@ -111,6 +111,14 @@ revisionFrom x offer = if holdsNothing (x .value) then offer else x .value
 
 unfoldable pub revisionOf : (w : Row) (n : ℕ) → ℕ
 revisionOf w n = revisionFrom (bestOf (w .answers) (w .read) n) (w .offer)
+
+-- Wish 5 of document 02: the read or the write of the row waits at the box.
+unfoldable pub waitsAt : (w : Row) (box : ℕ) → Bool
+waitsAt w box = if isWaiting (standingOf (w .read) box) then true else isWaiting (standingOf (w .write) box)
+
+-- how many rows are in use once one was begun: one more, up to 64, from where on a row is given back
+unfoldable pub usedAfter : (used : ℕ) → ℕ
+usedAfter used = if ltb used 64 then used + 1 else used
 
 -- "The write carries the attempt's own rank, waits at every box": the row with its write issued, none of it answered
 unfoldable pub issued : (w : Row) (revision n : ℕ) → Row

@@ -49,6 +49,14 @@ isWriting (Writing a) attempt = eqb a attempt
 isWriting (Decided a) attempt = false
 isWriting Gone attempt = false
 
+-- reading or writing in that attempt. Wish 5 of document 02: "An attempt is over when its station no longer reads or writes in it"
+abbrev pub isActive : (state : State) (attempt : ℕ) → Bool
+isActive Idle attempt = false
+isActive (Reading a) attempt = eqb a attempt
+isActive (Writing a) attempt = eqb a attempt
+isActive (Decided a) attempt = false
+isActive Gone attempt = false
+
 -- in that phase of the attempt
 abbrev pub isIn : (phase : Phase) (state : State) (attempt : ℕ) → Bool
 isIn phase state attempt = ofPhase phase (isReading state attempt) (isWriting state attempt)

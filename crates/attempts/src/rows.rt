@@ -3,7 +3,7 @@ ghost use mathlib.Core.Path.{_≡_};
 ghost use Prim.Native.Nat.{_≤_};
 ghost use Rattle.requests.specs.declared.Phase.the-variants.{Read, Write};
 ghost use Rattle.requests.specs.Requests.{standingOf, isWaiting, isOnTheWay};
-ghost use Rattle.attempts.specs.Rows.{unusedRow, requestsOf, newRow, better, bestOf, revisionOf, issued, rowServed, registerServed, withRequests};
+ghost use Rattle.attempts.specs.Rows.{unusedRow, requestsOf, newRow, better, bestOf, revisionOf, waitsAt, usedAfter, issued, rowServed, registerServed, withRequests};
 use crate::Answer;
 use crate::Row;
 use crate::Served;
@@ -121,6 +121,28 @@ pub fn waits(w: Row, p: Phase, b: u8) -> bool
             requests::waits(h, b)
         }
     }
+}
+
+// The read or the write of the row waits at box b.
+pub fn waits_at(w: Row, b: u8) -> bool
+    ensures { λ r. ⌜ r ≡ waitsAt w b ⌝ }
+{
+    let read = w.read;
+    let write = w.write;
+    if requests::waits(read, b) {
+        return true;
+    }
+    requests::waits(write, b)
+}
+
+// How many rows are in use once one was begun.
+pub fn used_after(used: u8) -> u8
+    ensures { λ r. ⌜ r ≡ usedAfter used ⌝ }
+{
+    if used < 64 {
+        return used + 1;
+    }
+    used
 }
 
 // The answer of that phase is on the way from box b.

@@ -1,6 +1,6 @@
 // A station's state.
 ghost use mathlib.Core.Path.{_≡_};
-ghost use Rattle.attempts.specs.Stations.{isGone, isBusy, isReading, isWriting, isIn, withState};
+ghost use Rattle.attempts.specs.Stations.{isGone, isBusy, isReading, isWriting, isActive, isIn, withState};
 use crate::State;
 use crate::Station;
 use requests::Phase;
@@ -47,6 +47,19 @@ fn writing(s: State, a: u8) -> bool
     match s {
         State::Idle => false,
         State::Reading(_) => false,
+        State::Writing(x) => x == a,
+        State::Decided(_) => false,
+        State::Gone => false,
+    }
+}
+
+// The station reads or writes in attempt a.
+pub fn active(s: State, a: u8) -> bool
+    ensures { λ r. ⌜ r ≡ isActive s a ⌝ }
+{
+    match s {
+        State::Idle => false,
+        State::Reading(x) => x == a,
         State::Writing(x) => x == a,
         State::Decided(_) => false,
         State::Gone => false,

@@ -11,12 +11,13 @@ use Rattle.requests.specs.Requests.{standing, waitingBelow, atQuorum, stillYes,
 use Rattle.floor.specs.Sound.{stationsBelow, soundOf}
 use Rattle.floor.specs.Floors.{newFloorOf}
 use Rattle.commands.specs.Commands.{allZero, spared, commandOf}
-use Rattle.attempts.specs.Rows.{newRow, better, bestOf, revisionFrom, revisionOf, issued}
+use Rattle.floor.specs.Free.{nextRow}
+use Rattle.attempts.specs.Rows.{newRow, usedAfter, better, bestOf, revisionFrom, revisionOf, issued}
 use Rattle.floor.specs.Refusals.{beginRefusal, serveRefusal, deliverRefusal, stopRefusal, leaveRefusal}
 use Rattle.floor.specs.Effects.{deliveredOn}
 use Rattle.floor.specs.Step.{playOf, applyOf, stepOf}
 use Rattle.floor.specs.Runs.{floorAt, stopsAt, runFrom, playedOn}
-use Rattle.solo.specs.Plan.{highestRank, roundAbove, answeringFrom, lowest, exchange, exchanges, exchangesOf}
+use Rattle.solo.specs.Plan.{roundAbove, answeringFrom, lowest, exchange, exchanges, exchangesOf}
 use Rattle.solo.specs.Solo.{frontRefusal, soloRefusal, soloOf}
 use Rattle.drill_file.specs.DrillFile.{wrongSize, wrongVersion, wrongFloor, wrongByte, wrongBytes, wrongLength, wrongLabel, wrongRun, wrongRecords, fileRefusal, labelOf}
 use Rattle.player.specs.Play.{playedOf, lastRank}
@@ -24,5 +25,5 @@ use Rattle.examples.specs.WorkedRuns.{saidFrom, answersFrom, linesFrom}
 use Rattle.examples.specs.Table.{Claim}
 
 pub examples-hold : Claim
-unfolding if_then_else_ sizesRight recordAt recordsFrom bit setBit countBelow ones onesIn outranks rmwRead rmwWrite takes standing waitingBelow atQuorum stillYes allYes readVerdict writeVerdict stationsBelow soundOf newFloorOf allZero spared commandOf newRow better bestOf revisionFrom revisionOf issued beginRefusal serveRefusal deliverRefusal stopRefusal leaveRefusal deliveredOn playOf applyOf stepOf floorAt stopsAt runFrom playedOn wrongSize wrongVersion wrongFloor wrongByte wrongBytes wrongLength wrongLabel wrongRun wrongRecords fileRefusal labelOf playedOf lastRank highestRank roundAbove answeringFrom lowest exchange exchanges exchangesOf frontRefusal soloRefusal soloOf saidFrom answersFrom linesFrom
+unfolding if_then_else_ sizesRight recordAt recordsFrom bit setBit countBelow ones onesIn outranks rmwRead rmwWrite takes standing waitingBelow atQuorum stillYes allYes readVerdict writeVerdict stationsBelow soundOf newFloorOf allZero spared commandOf newRow usedAfter nextRow better bestOf revisionFrom revisionOf issued beginRefusal serveRefusal deliverRefusal stopRefusal leaveRefusal deliveredOn playOf applyOf stepOf floorAt stopsAt runFrom playedOn wrongSize wrongVersion wrongFloor wrongByte wrongBytes wrongLength wrongLabel wrongRun wrongRecords fileRefusal labelOf playedOf lastRank roundAbove answeringFrom lowest exchange exchanges exchangesOf frontRefusal soloRefusal soloOf saidFrom answersFrom linesFrom
 examples-hold = (refl, (refl, (refl, (refl, (refl, (refl, (refl, (refl, (refl, (refl, (refl, (refl, (refl, (refl, (refl, (refl, (refl, (refl, (refl, tt)))))))))))))))))))

@@ -29,6 +29,7 @@ use Rattle.parts.specs.declared.Parts.{Parts}
 use Rattle.parts.specs.declared.Changed.{Changed}
 use Rattle.parts.proofs.PlaceLaws.{place-same}
 use Rattle.floor.specs.Floors.{boxAt, stationAt, rowAt}
+use Rattle.floor.specs.Free.{nextRow, takenBy}
 use Rattle.floor.specs.Refusals.{beginRefusal, serveRefusal, deliverRefusal, stopRefusal, leaveRefusal, refusalOn}
 use Rattle.floor.specs.Effects.{receivedOn, verdictOn, heardOn, deliveredOn, effectOn}
 use Rattle.floor.specs.Step.{applyOf}
@@ -40,7 +41,7 @@ use Rattle.floor.proofs.StepLaws.{apply-refused, apply-accepted}
 
 -- the places of the row, the box and the station that a command names on a floor
 abbrev pub rowPlace : Floor → Command → ℕ
-rowPlace f c = placeIn 64 (attemptIn (f .used) c)
+rowPlace f c = placeIn 64 (attemptIn (takenBy f c) c)
 
 abbrev pub boxPlace : Command → ℕ
 boxPlace c = placeIn 9 (boxIn c)
@@ -50,7 +51,17 @@ stationPlace f c = placeIn 16 (stationIn (rowAt f (rowPlace f c) .station) c)
 
 -- what a step looks at, and the floor with these parts replaced: no step looks at or changes another row, box or station
 abbrev pub look : Floor → Command → Parts
-look f c = record { n = f .n; m = f .m; used = f .used; row = rowAt f (rowPlace f c); storage = boxAt f (boxPlace c); station = stationAt f (stationPlace f c) }
+look f c =
+    record {
+      n = f .n;
+      m = f .m;
+      used = f .used;
+      next = takenBy f c;
+      highest = f .highest;
+      row = rowAt f (rowPlace f c);
+      storage = boxAt f (boxPlace c);
+      station = stationAt f (stationPlace f c);
+    }
 
 abbrev pub put : Floor → Command → Parts → Floor
 put f c p =
@@ -58,6 +69,7 @@ put f c p =
       n = f .n;
       m = f .m;
       used = p .used;
+      highest = p .highest;
       boxes = set (f .boxes) (boxPlace c) (p .storage);
       stations = set (f .stations) (stationPlace f c) (p .station);
       rows = set (f .rows) (rowPlace f c) (p .row);
@@ -66,9 +78,10 @@ put f c p =
 abbrev pub accepted : Floor → Command → Changed → Stepped
 accepted f c y = record { floor = put f c (y .parts); outcome = y .outcome }
 
--- the parts at a row, a box and a station
-abbrev pub partsAt : Floor → ℕ → ℕ → ℕ → Parts
-partsAt f a b s = record { n = f .n; m = f .m; used = f .used; row = rowAt f a; storage = boxAt f b; station = stationAt f s }
+-- the parts at a row, a box and a station, where a begin takes the row `next`
+abbrev pub partsAt : Floor → ℕ → ℕ → ℕ → ℕ → Parts
+partsAt f next a b s =
+    record { n = f .n; m = f .m; used = f .used; next = next; highest = f .highest; row = rowAt f a; storage = boxAt f b; station = stationAt f s }
 
 -- two choices by one test that agree where it fails
 same-else : {A : Type 0} (t : Bool) (k x y : A) → (t ≡ false → x ≡ y) → (if t then k else x) ≡ (if t then k else y)
@@ -143,7 +156,7 @@ module _ (f : Floor) (z : Sound f) where
   unfolding begun served
   effect-join (Begin s round v) e =
       let d = begin-means f s round v e in
-      rw (at-station s (d .station), place-same 64 (f .used) (d .row), set-getD (f .boxes) _ box0)
+      rw (at-station s (d .station), place-same 64 (nextRow f) (d .row), set-getD (f .boxes) _ box0)
   effect-join (Serve p a b) e = let d = serve-means f p a b e in rw (at-box b (d .box), at-row a (d .used), set-getD (f .stations) _ station0)
   effect-join (Deliver p a b) e = deliver-join a b (deliver-means f p a b e .used) p
   effect-join (Stop b) e = rw (at-box b (stop-means f b e .box), set-getD (f .stations) _ station0, set-getD (f .rows) _ row0)

@@ -1,13 +1,12 @@
 -- What every step keeps: a refused one the floor itself; each one soundness, the sizes, and the lengths of the arrays.
 use Prim.Native.Nat.{ℕ, _<_}
 use native.Mathlib.Omega.{arith}
-use native.Mathlib.Nat.{ne-of-lt}
-use mathlib.Core.Path.{_≡_, refl, ap, _∙_}
+use native.Mathlib.Decide.{ℕ-discrete}
+use mathlib.Core.Path.{_≡_, refl, sym, ap, subst, _∙_}
 use mathlib.Core.Bool.{true, false}
 use mathlib.Core.List.{List}
 use lib.ListN.{length, getD, set, length-set, getD-replicate}
 use lib.Seq.{getD-set-same, getD-set-other}
-use borrow.Author.Count.{below-more}
 use Rattle.base.specs.Numbers.{sizesRight}
 use Rattle.base.proofs.Choices.{by-test}
 use Rattle.register.specs.declared.StorageBox.{StorageBox}
@@ -38,6 +37,9 @@ use Rattle.requests.proofs.RequestLaws.{waiting-length, served-length}
 use Rattle.base.proofs.Stores.{set-all, set-at}
 use Rattle.register.specs.declared.Register.{Register}
 use Rattle.floor.specs.Effects.{afterBegin, verdictOn, heardOn, deliveredOn, effectOn}
+use Rattle.floor.specs.Free.{nextRow}
+use Rattle.attempts.proofs.UsedLaws.{used-most}
+use Rattle.floor.proofs.FreeLaws.{next-other}
 use Rattle.floor.proofs.StepCases.{StepCase, turned, began, served, heard, issued, decided, aborted, stopped, left, apply-case, apply-refusal}
 
 -- "Floor, record and reply stay unchanged": a refused step hands back the very floor
@@ -82,23 +84,25 @@ sound-on f g n m u r z = record {
 pub owner-kept : (l : List Row) (a : ℕ) (w : Row) → w .station ≡ getD l a row0 .station → (j : ℕ) → getD (set l a w) j row0 .station ≡ getD l j row0 .station
 owner-kept l a w e = set-all row0 (λ (j : ℕ) (x : Row). x .station ≡ getD l j row0 .station) l a w (λ j. refl) e
 
-begun-sound : (f : Floor) (s round v : ℕ) → s < f .m → f .used < 64 → Sound f → Sound (afterBegin f s round v)
+begun-sound : (f : Floor) (s round v : ℕ) → s < f .m → Sound f → Sound (afterBegin f s round v)
 unfolding newRow
-begun-sound f s round v hs hu z = record {
+begun-sound f s round v hs z = record {
   box-least = z .box-least;
   box-most = z .box-most;
   station-least = z .station-least;
   station-most = z .station-most;
-  rows-most = omega arith;
-  stations = below-more (λ (j : ℕ). rowAt (afterBegin f s round v) j .station < f .m) (f .used)
-      (λ j h. rw (getD-set-other (f .rows) (f .used) j (newRow (f .n) s round v) row0 (ne-of-lt h)) (z .stations j h))
-      (set-at row0 (λ (w : Row). w .station < f .m) (f .rows) (f .used) (newRow (f .n) s round v) hs (z .station-least));
+  rows-most = used-most (f .used) (z .rows-most);
+  stations = λ j h. elim (ℕ-discrete j (nextRow f)) [
+    | yes e ↦ subst (λ (i : ℕ). rowAt (afterBegin f s round v) i .station < f .m) (sym e)
+        (set-at row0 (λ (w : Row). w .station < f .m) (f .rows) (nextRow f) (newRow (f .n) s round v) hs (z .station-least))
+    | no e ↦ rw (getD-set-other (f .rows) (nextRow f) j (newRow (f .n) s round v) row0 e) (z .stations j (next-other f j h e))
+  ];
 }
 
 keeps : {f : Floor} {c : Command} {s : Stepped} → StepCase f c s → Sound f → Sound (s .floor)
 unfolding rows.issued
 keeps (turned k t) y = y
-keeps {f} (began {s = s} {round = r} {v = v} z d) y = begun-sound f s r v (d .station) (d .row) y
+keeps {f} (began {s = s} {round = r} {v = v} z d) y = begun-sound f s r v (d .station) y
 keeps {f} (served {a = a} z d) y = sound-on f _ refl refl refl (owner-kept (f .rows) a _ refl) y
 keeps {f} (heard {a = a} z d q) y = sound-on f _ refl refl refl (owner-kept (f .rows) a _ refl) y
 keeps {f} (issued {a = a} z d r q t) y = sound-on f _ refl refl refl (owner-kept (f .rows) a _ refl) y
@@ -176,7 +180,7 @@ lengths-on f g a w y lb ls e r = record {
 
 lengths : {f : Floor} {c : Command} {s : Stepped} → StepCase f c s → Lengths f → Lengths (s .floor)
 lengths (turned k t) y = y
-lengths {f} (began {s = s} {round = r} {v = v} z d) y = lengths-on f _ (f .used) _ y refl (length-set (f .stations) s _) refl (λ _. new-lengths-row (f .n) s r v)
+lengths {f} (began {s = s} {round = r} {v = v} z d) y = lengths-on f _ (nextRow f) _ y refl (length-set (f .stations) s _) refl (λ _. new-lengths-row (f .n) s r v)
 lengths {f} (served {p = p} {a = a} {b = b} z d) y =
     lengths-on f _ a _ y (length-set (f .boxes) b _) refl refl (λ h. served-lengths p (rowAt f a) _ b (row-lengths f y a h))
 lengths {f} (heard {p = p} {a = a} {b = b} z d q) y = lengths-on f _ a _ y refl refl refl (λ h. heard-lengths p (rowAt f a) b (row-lengths f y a h))

@@ -20,6 +20,7 @@ use Rattle.parts.specs.Parts.{placeIn, attemptIn, boxIn, stationIn, changeIn}
 use Rattle.parts.specs.declared.Parts.{Parts}
 use Rattle.parts.specs.declared.Changed.{Changed}
 use Rattle.floor.specs.Step.{applyOf}
+use Rattle.floor.specs.Free.{takenBy}
 use Rattle.floor.specs.Runs.{stopsAt, ranBy, runFrom}
 use Rattle.floor.specs.Claims.{Sound}
 use Rattle.floor.specs.declared.Floor.{Floor}
@@ -83,28 +84,43 @@ module _ (until : Until) (k : ℕ) (f : Floor) (c : Command) where
 
 -- the floor once the loop has stored parts at the places i, b and j
 abbrev pub storedAt : (f : Floor) (i b j : ℕ) (x : Parts) → Floor
-storedAt f i b j x = record { n = f .n; m = f .m; used = x .used; boxes = set (f .boxes) b (x .storage); stations = set (f .stations) j (x .station); rows = set (f .rows) i (x .row) }
+storedAt f i b j x =
+    record {
+      n = f .n;
+      m = f .m;
+      used = x .used;
+      highest = x .highest;
+      boxes = set (f .boxes) b (x .storage);
+      stations = set (f .stations) j (x .station);
+      rows = set (f .rows) i (x .row);
+    }
 
--- What one turn of the loop did: on the sound floor f, for the command c, it read the places i, b and j, and made y of what stands there.
-pub record Turn (f : Floor) (c : Command) (i b j : ℕ) (y : Changed) : Type 0 where
+-- What one turn of the loop did: on the sound floor f, for the command c, which takes the row `next`, it read the places i, b and j, and
+-- made y of what stands there.
+pub record Turn (f : Floor) (c : Command) (next i b j : ℕ) (y : Changed) : Type 0 where
   pub sound : Sound f
-  pub row : i ≡ placeIn 64 (attemptIn (f .used) c)
+  pub taken : next ≡ takenBy f c
+  pub row : i ≡ placeIn 64 (attemptIn next c)
   pub storage : b ≡ placeIn 9 (boxIn c)
   pub station : j ≡ placeIn 16 (stationIn (getD (f .rows) i row0 .station) c)
-  pub change : y ≡ changeIn (partsAt f i b j) c
+  pub change : y ≡ changeIn (partsAt f next i b j) c
 
-module _ {f : Floor} {c : Command} {i b j : ℕ} {y : Changed} (t : Turn f c i b j y) where
+module _ {f : Floor} {c : Command} {next i b j : ℕ} {y : Changed} (t : Turn f c next i b j y) where
+  row-named : i ≡ rowPlace f c
+  row-named = t .row ∙ ap (λ (x : ℕ). placeIn 64 (attemptIn x c)) (t .taken)
+
   station-named : j ≡ stationPlace f c
-  station-named = t .station ∙ ap (λ (x : ℕ). placeIn 16 (stationIn (getD (f .rows) x row0 .station) c)) (t .row)
+  station-named = t .station ∙ ap (λ (x : ℕ). placeIn 16 (stationIn (getD (f .rows) x row0 .station) c)) row-named
 
-  looked : partsAt f i b j ≡ look f c
+  looked : partsAt f next i b j ≡ look f c
   looked =
-      ap (λ (x : ℕ). partsAt f x b j) (t .row) ∙ ap (λ (x : ℕ). partsAt f (rowPlace f c) x j) (t .storage)
-      ∙ ap (λ (x : ℕ). partsAt f (rowPlace f c) (boxPlace c) x) station-named
+      ap (λ (x : ℕ). partsAt f x i b j) (t .taken) ∙ ap (λ (x : ℕ). partsAt f (takenBy f c) x b j) row-named
+      ∙ ap (λ (x : ℕ). partsAt f (takenBy f c) (rowPlace f c) x j) (t .storage)
+      ∙ ap (λ (x : ℕ). partsAt f (takenBy f c) (rowPlace f c) (boxPlace c) x) station-named
 
   stored : (x : Parts) → storedAt f i b j x ≡ put f c x
   stored x =
-      ap (λ (p : ℕ). storedAt f p b j x) (t .row) ∙ ap (λ (p : ℕ). storedAt f (rowPlace f c) p j x) (t .storage)
+      ap (λ (p : ℕ). storedAt f p b j x) row-named ∙ ap (λ (p : ℕ). storedAt f (rowPlace f c) p j x) (t .storage)
       ∙ ap (λ (p : ℕ). storedAt f (rowPlace f c) (boxPlace c) p x) station-named
 
   joined : Joined f (t .sound) c y

@@ -2,32 +2,22 @@
 use Prim.Native.Nat.{ℕ}
 use mathlib.Core.Path.{_≡_, refl, ap, _∙_}
 use mathlib.Core.Logic.{_⊎_, inl, inr}
-use mathlib.Core.Bool.{Bool, true, false}
-use lib.Dec.{eqb}
+use mathlib.Core.Bool.{true}
 use borrow.Author.Tests.{eqb-true}
 use Rattle.floor.specs.Floors.{stationAt}
-use Rattle.attempts.specs.Stations.{isGone}
+use Rattle.attempts.specs.Stations.{isGone, isActive}
+use Rattle.floor.specs.Free.{nextRow}
 use Rattle.floor.specs.Step.{applyOf}
 use Rattle.attempts.specs.declared.State.{State}
-use Rattle.attempts.specs.declared.State.the-variants.{Idle, Reading, Writing}
-use Rattle.attempts.specs.declared.State.the-variants as state
 use Rattle.attempts.specs.declared.Station.{Station}
 use Rattle.floor.specs.Claims.{DecidesNow, BeginsNow, StationMove, station-kept, station-begins, station-issues, station-decides, station-aborts, station-leaves}
 use Rattle.floor.specs.declared.Floor.{Floor}
 use Rattle.commands.specs.declared.Outcome.{Outcome}
-use Rattle.commands.specs.declared.Outcome.the-variants.{Begun, Decided, Gone}
+use Rattle.commands.specs.declared.Outcome.the-variants.{Begun, Gone}
 use Rattle.commands.specs.declared.Command.{Command}
 use Rattle.base.proofs.Cases.{clash}
 use Rattle.attempts.proofs.StationTests.{is-reading, is-writing, here-in}
 use Rattle.floor.proofs.Moves.{apply-station}
-
--- reading or writing in the attempt a
-abbrev pub isActive : State → ℕ → Bool
-isActive Idle a = false
-isActive (Reading x) a = eqb x a
-isActive (Writing x) a = eqb x a
-isActive (state.Decided x) a = false
-isActive state.Gone a = false
 
 module _ {f : Floor} {c : Command} {j : ℕ} where
   gone-kept : {o : Outcome} {x : Station} → StationMove f c j o x → isGone (stationAt f j .state) ≡ true → isGone (x .state) ≡ true
@@ -56,7 +46,7 @@ module _ {f : Floor} {c : Command} {j : ℕ} where
 
   active-by : {o : Outcome} {x : Station} (a : ℕ) → StationMove f c j o x → isActive (x .state) a ≡ true → (isActive (stationAt f j .state) a ≡ true) ⊎ (o ≡ Begun a)
   active-by a station-kept e = inl e
-  active-by a (station-begins q h i l) e = inr (ap Begun (eqb-true (f .used) a e))
+  active-by a (station-begins q h i l) e = inr (ap Begun (eqb-true (nextRow f) a e))
   active-by a (station-issues {a = k} q u w r) e = inl (ap (λ (p : State). isActive p a) (is-reading (stationAt f j .state) k r) ∙ e)
   active-by a (station-decides q u w r v) e = clash e refl
   active-by a (station-aborts q u w r) e = clash e refl

@@ -6,12 +6,12 @@ use mathlib.Core.Bool.{true, false}
 use mathlib.Core.List.{List, _∷_}
 use lib.ListN.{length}
 use Rattle.base.specs.Records.{recordsIn}
-use Rattle.base.specs.Quorum.{indicator}
+use Rattle.base.specs.Choice.{if_then_else_}
 use Rattle.base.specs.Mask.{countBelow}
 use Rattle.register.specs.Register.{withRegister}
 use Rattle.register.specs.declared.Register.{Register}
 use Rattle.register.specs.declared.StorageBox.{StorageBox}
-use Rattle.requests.specs.Requests.{standingOf, isWaiting, isOnTheWay, atQuorum, allYes}
+use Rattle.requests.specs.Requests.{Standing, waiting, onTheWay, received, standingOf, isWaiting, isOnTheWay, atQuorum, allYes}
 use Rattle.requests.specs.declared.Phase.{Phase}
 use Rattle.requests.specs.declared.Phase.the-variants.{Read, Write}
 use Rattle.commands.specs.Commands.{commandOf}
@@ -20,8 +20,8 @@ use Rattle.commands.specs.declared.Command.{Command}
 use Rattle.commands.specs.declared.Command.the-variants.{Begin, Serve, Deliver, Stop, Leave}
 use Rattle.commands.specs.declared.Outcome.{Outcome}
 use Rattle.commands.specs.declared.Outcome.the-variants.{Begun, Served, Received, Aborted, WriteIssued, Decided, Stopped, Gone, Refused}
-use Rattle.attempts.specs.Stations.{isGone, isBusy, isReading, isWriting, isIn, withState}
-use Rattle.attempts.specs.Rows.{requestsOf, newRow, revisionOf, rowServed, registerServed, requestsHeard}
+use Rattle.attempts.specs.Stations.{isGone, isBusy, isReading, isWriting, isActive, isIn, withState}
+use Rattle.attempts.specs.Rows.{requestsOf, newRow, usedAfter, revisionOf, rowServed, registerServed, requestsHeard}
 use Rattle.attempts.specs.Rows as rows
 use Rattle.attempts.specs.declared.State.the-variants as state
 use Rattle.attempts.specs.declared.Station.{Station}
@@ -29,7 +29,8 @@ use Rattle.attempts.specs.declared.Row.{Row}
 use Rattle.floor.specs.Floors.{boxAt, stationAt, rowAt, ownerAt, newFloorOf}
 use Rattle.floor.specs.Sound.{soundOf}
 use Rattle.floor.specs.Refusals.{refusalOn}
-use Rattle.floor.specs.Effects.{heardRow, beginner, decider}
+use Rattle.floor.specs.Free.{isFree, nextRow}
+use Rattle.floor.specs.Effects.{heardRow, beginner, highestAfter, decider}
 use Rattle.floor.specs.Step.{stepOf, refusalOf, valueSaid}
 use Rattle.floor.specs.Runs.{floorAt, saidAt, stopsAt, runOf, playedOn, playedIn}
 use Rattle.floor.specs.declared.Floor.{Floor}
@@ -67,7 +68,7 @@ module _ (f : Floor) where
     pub free : isBusy (stationAt f s .state) ≡ false
     pub offer : 0 < v
     pub later : stationAt f s .last < round
-    pub row : f .used < 64
+    pub row : nextRow f < 64
 
   -- of a read or a write
   pub record CanServe (p : Phase) (a b : ℕ) : Type 0 where
@@ -105,9 +106,10 @@ module _ (f : Floor) (c : Command) (g : Floor) where
     pub offer : ℕ
     pub command : c ≡ Begin station round offer
     pub may : CanBegin f station round offer
-    pub next : a ≡ f .used
-    pub row : rowAt g (f .used) ≡ newRow (f .n) station round offer
+    pub next : a ≡ nextRow f
+    pub row : rowAt g (nextRow f) ≡ newRow (f .n) station round offer
     pub beginning : stationAt g station ≡ beginner f station round
+    pub highest : g .highest ≡ highestAfter f station round
 
   pub record ServedBy (a : ℕ) : Type 0 where
     pub phase : Phase
@@ -196,7 +198,7 @@ module _ (f : Floor) (c : Command) (j : ℕ) where
   pub data StationMove : Outcome → Station → Type 0 where
     station-kept : {o : Outcome} → StationMove o (stationAt f j)
     station-begins : {round v : ℕ} → c ≡ Begin j round v → isGone (stationAt f j .state) ≡ false → isBusy (stationAt f j .state) ≡ false
-        → stationAt f j .last < round → StationMove (Begun (f .used)) (beginner f j round)
+        → stationAt f j .last < round → StationMove (Begun (nextRow f)) (beginner f j round)
     station-issues : {a b v : ℕ} → c ≡ Deliver Read a b → a < f .used → rowAt f a .station ≡ j → isReading (stationAt f j .state) a ≡ true
         → StationMove (WriteIssued v) (withState (stationAt f j) (state.Writing a))
     station-decides : {a b v : ℕ} → c ≡ Deliver Write a b → a < f .used → rowAt f a .station ≡ j → isWriting (stationAt f j .state) a ≡ true
@@ -215,12 +217,22 @@ module _ (f : Floor) (c : Command) (j : ℕ) where
   -- the row j after the step; an answer is received, whatever comes of it
   pub data RowMove : Outcome → Row → Type 0 where
     row-kept : {o : Outcome} → RowMove o (rowAt f j)
-    row-begins : {s round v : ℕ} → c ≡ Begin s round v → s < f .m → j ≡ f .used → RowMove (Begun (f .used)) (newRow (f .n) s round v)
+    row-begins : {s round v : ℕ} → c ≡ Begin s round v → s < f .m → j ≡ nextRow f → RowMove (Begun (nextRow f)) (newRow (f .n) s round v)
     row-served : {p : Phase} {b : ℕ} → c ≡ Serve p j b → CanServe f p j b → RowMove (Served j) (rowServed p (rowAt f j) (boxAt f b .register) b)
-    row-heard : {p : Phase} {b : ℕ} {o : Outcome} → c ≡ Deliver p j b → CanDeliver f p j b → RowMove o (heardRow f p j b)
+    row-heard : {p : Phase} {b : ℕ} {o : Outcome} → c ≡ Deliver p j b → CanDeliver f p j b → isRefused o ≡ false → RowMove o (heardRow f p j b)
     row-issues : {b v : ℕ} → c ≡ Deliver Read j b → CanDeliver f Read j b → isReading (ownerAt f j .state) j ≡ true
         → atQuorum (heardRow f Read j b .read) (f .n) ≡ true → allYes (heardRow f Read j b .read) (f .n) ≡ true → v ≡ revisionOf (heardRow f Read j b) (f .n)
         → RowMove (WriteIssued v) (rows.issued (heardRow f Read j b) v (f .n))
+
+-- Where the request of a phase of the row a stands at the box b, before and after the step: it waits, is served, and its answer is received,
+-- or the row is another attempt's from then on.
+module _ (f : Floor) (c : Command) (a : ℕ) (p : Phase) (b : ℕ) where
+  pub data StandingMove : Outcome → Standing → Standing → Type 0 where
+    stands-kept : {o : Outcome} {s : Standing} → StandingMove o s s
+    stands-new : {k : ℕ} {s t : Standing} → k ≡ a → StandingMove (Begun k) s t
+    stands-served : c ≡ Serve p a b → StandingMove (Served a) waiting onTheWay
+    stands-received : {o : Outcome} → c ≡ Deliver p a b → isRefused o ≡ false → StandingMove o onTheWay received
+    stands-issued : {j v : ℕ} {s : Standing} → p ≡ Write → c ≡ Deliver Read a j → isReading (ownerAt f a .state) a ≡ true → StandingMove (WriteIssued v) s waiting
 
 -- What a register x may have become: where a rank or a value is new, it is that of a row in use.
 pub record Grown (f : Floor) (x y : Register) : Type 0 where
@@ -251,7 +263,30 @@ pub record BeginsNow (f : Floor) (c : Command) (j : ℕ) (o : Outcome) (round : 
   pub offer : ℕ
   pub command : c ≡ Begin j round offer
   pub above : stationAt f j .last < round
-  pub outcome : o ≡ Begun (f .used)
+  pub outcome : o ≡ Begun (nextRow f)
+
+-- the step that sets the highest rank begun: a begin, which makes h of it
+pub record RaisesNow (f : Floor) (c : Command) (o : Outcome) (h : ℕ) : Type 0 where
+  pub station : ℕ
+  pub round : ℕ
+  pub offer : ℕ
+  pub command : c ≡ Begin station round offer
+  pub outcome : o ≡ Begun (nextRow f)
+  pub highest : h ≡ highestAfter f station round
+
+-- Wish 5 of document 02: "Its row is free once it is over and its issued requests are served at every box not stopped."
+pub record Free (f : Floor) (a : ℕ) : Type 0 where
+  pub over : isActive (ownerAt f a .state) a ≡ false
+  pub served : (b : ℕ) → b < f .n → boxAt f b .stopped ≡ false → (p : Phase) → isWaiting (standingOf (requestsOf p (rowAt f a)) b) ≡ false
+
+-- "With all 64 used, begin takes the free row with the smallest rank, of equals the lowest"; with fewer it takes the next
+pub data TakesRow (f : Floor) : ℕ → Type 0 where
+  unused : f .used < 64 → TakesRow f (f .used)
+  free : {a : ℕ} → 64 ≤ f .used → a < 64 → isFree f a ≡ true
+      → ((c : ℕ) → c < 64 → isFree f c ≡ true → rowAt f a .rank ≤ rowAt f c .rank)
+      → ((c : ℕ) → c < a → isFree f c ≡ true → rowAt f a .rank < rowAt f c .rank)
+      → TakesRow f a
+  none : 64 ≤ f .used → ((c : ℕ) → c < 64 → isFree f c ≡ false) → TakesRow f 64
 
 -- What holds of every single step, accepted or refused, on any floor.
 pub record StepClaims : Type 0 where
@@ -273,6 +308,8 @@ pub record StepClaims : Type 0 where
   pub station : (f : Floor) (r : List ℕ) (j : ℕ) → StationMove f (commandOf r) j (stepOf f r .outcome) (stationAt (stepOf f r .floor) j)
   pub storage : (f : Floor) (r : List ℕ) (j : ℕ) → BoxMove f (commandOf r) j (stepOf f r .outcome) (boxAt (stepOf f r .floor) j)
   pub row : (f : Floor) (r : List ℕ) (j : ℕ) → RowMove f (commandOf r) j (stepOf f r .outcome) (rowAt (stepOf f r .floor) j)
+  pub standing : (f : Floor) (r : List ℕ) → Sound f → Lengths f → (a : ℕ) → a < 64 → (p : Phase) (b : ℕ) → b < f .n
+      → StandingMove f (commandOf r) a p b (stepOf f r .outcome) (standingOf (requestsOf p (rowAt f a)) b) (standingOf (requestsOf p (rowAt (stepOf f r .floor) a)) b)
   -- "Stop box b, for good": a stopped box never changes again. "a station leaves for good": one that is gone stays gone
   pub stopped-stays : (f : Floor) (r : List ℕ) (j : ℕ) → boxAt f j .stopped ≡ true → boxAt (stepOf f r .floor) j ≡ boxAt f j
   pub gone-stays : (f : Floor) (r : List ℕ) (j : ℕ) → isGone (stationAt f j .state) ≡ true → isGone (stationAt (stepOf f r .floor) j .state) ≡ true
@@ -283,10 +320,16 @@ pub record StepClaims : Type 0 where
       ⊎ BeginsNow f (commandOf r) j (stepOf f r .outcome) (stationAt (stepOf f r .floor) j .last)
   pub decided-from : (f : Floor) (r : List ℕ) (j : ℕ) → (stationAt (stepOf f r .floor) j .decided ≡ stationAt f j .decided)
       ⊎ DecidesNow f (commandOf r) j (stepOf f r .outcome) (stationAt (stepOf f r .floor) j .decided)
-  -- "Rows are numbered from 0 in order of beginning": the next row is in use exactly where the step says begun; an attempt keeps its
-  -- station, its rank and its offer
-  pub used : (f : Floor) (r : List ℕ) → stepOf f r .floor .used ≡ f .used + indicator (isBegun (stepOf f r .outcome))
-  pub attempt : (f : Floor) (r : List ℕ) (j : ℕ) → j < f .used → SameAttempt (rowAt f j) (rowAt (stepOf f r .floor) j)
+  -- "Rows are numbered from 0 in order of beginning", up to 64: one more is in use exactly where the step says begun; an attempt keeps
+  -- its station, its rank and its offer until its row is given back
+  pub used : (f : Floor) (r : List ℕ) → stepOf f r .floor .used ≡ (if isBegun (stepOf f r .outcome) then usedAfter (f .used) else f .used)
+  pub attempt : (f : Floor) (r : List ℕ) (j : ℕ) → ¬ (stepOf f r .outcome ≡ Begun j) → SameAttempt (rowAt f j) (rowAt (stepOf f r .floor) j)
+  -- wish 5: what a free row is, and which row a begin takes
+  pub free : (f : Floor) (a : ℕ) → isFree f a ≡ true → Free f a
+  pub free-holds : (f : Floor) (a : ℕ) → Free f a → isFree f a ≡ true
+  pub takes : (f : Floor) → TakesRow f (nextRow f)
+  -- "the highest rank begun alone, which the floor keeps": it changes at a begin only
+  pub highest-from : (f : Floor) (r : List ℕ) → (stepOf f r .floor .highest ≡ f .highest) ⊎ RaisesNow f (commandOf r) (stepOf f r .outcome) (stepOf f r .floor .highest)
   -- "boxes are counted, not different answers": each accepted delivery makes the answers received from boxes below n one more
   pub counted : (f : Floor) (r : List ℕ) (p : Phase) (a b : ℕ) → Lengths f → commandOf r ≡ Deliver p a b → isRefused (stepOf f r .outcome) ≡ false
       → countBelow (requestsOf p (rowAt (stepOf f r .floor) a) .heard) (f .n) ≡ countBelow (requestsOf p (rowAt f a) .heard) (f .n) + 1

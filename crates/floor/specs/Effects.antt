@@ -1,7 +1,8 @@
--- Document 01, "Steps", and wish 2 of document 02: the floor that an accepted step leads to, and what came of it.
-use Prim.Native.Nat.{ℕ, _+_}
+-- Document 01, "Steps", and wishes 2 and 5 of document 02: the floor that an accepted step leads to, and what came of it.
+use Prim.Native.Nat.{ℕ, max}
 use mathlib.Core.Bool.{true}
 use Rattle.base.specs.Choice.{if_then_else_}
+use Rattle.base.specs.Numbers.{rankOf}
 use Rattle.register.specs.Register.{withRegister}
 use Rattle.requests.specs.Requests.{ofPhase, verdictOf}
 use Rattle.requests.specs.declared.Phase.{Phase}
@@ -12,11 +13,12 @@ use Rattle.commands.specs.declared.Command.the-variants.{Begin, Serve, Deliver,
 use Rattle.commands.specs.declared.Outcome.{Outcome}
 use Rattle.commands.specs.declared.Outcome.the-variants as said
 use Rattle.attempts.specs.Stations.{withState, isIn}
-use Rattle.attempts.specs.Rows.{newRow, issued, revisionOf, rowServed, registerServed, requestsHeard, rowHeard}
+use Rattle.attempts.specs.Rows.{newRow, usedAfter, issued, revisionOf, rowServed, registerServed, requestsHeard, rowHeard}
 use Rattle.attempts.specs.declared.State.the-variants as state
 use Rattle.attempts.specs.declared.Station.{Station}
 use Rattle.attempts.specs.declared.Row.{Row}
-use Rattle.floor.specs.Floors.{boxAt, stationAt, rowAt, ownerAt, withUsed, withBox, withStation, withRow}
+use Rattle.floor.specs.Floors.{boxAt, stationAt, rowAt, ownerAt, withUsed, withHighest, withBox, withStation, withRow}
+use Rattle.floor.specs.Free.{nextRow}
 use Rattle.floor.specs.declared.Floor.{Floor}
 use Rattle.floor.specs.declared.Stepped.{Stepped}
 
@@ -24,13 +26,19 @@ use Rattle.floor.specs.declared.Stepped.{Stepped}
 abbrev pub stepped : (f : Floor) (o : Outcome) → Stepped
 stepped f o = record { floor = f; outcome = o }
 
--- "1 Begin (station, round, revision): a new row, a read request waiting at every box; the station is reading." The row is the next.
+-- "1 Begin (station, round, revision): a new row, a read request waiting at every box; the station is reading." The row is the next or,
+-- wish 5, one that is given back: all in it is new, which "drops its answers still on the way".
 abbrev pub beginner : (f : Floor) (station round : ℕ) → Station
-beginner f station round = record { state = state.Reading (f .used); last = round; decided = stationAt f station .decided }
+beginner f station round = record { state = state.Reading (nextRow f); last = round; decided = stationAt f station .decided }
+
+-- "the highest rank begun alone, which the floor keeps"
+abbrev pub highestAfter : (f : Floor) (station round : ℕ) → ℕ
+highestAfter f station round = max (f .highest) (rankOf round station)
 
 abbrev pub afterBegin : (f : Floor) (station round revision : ℕ) → Floor
 afterBegin f station round revision =
-    withUsed (withStation (withRow f (f .used) (newRow (f .n) station round revision)) station (beginner f station round)) (f .used + 1)
+    withHighest (withUsed (withStation (withRow f (nextRow f) (newRow (f .n) station round revision)) station (beginner f station round)) (usedAfter (f .used)))
+    (highestAfter f station round)
 
 -- "2, 3 Serve a read (2) or a write (3) of attempt a at box b: the routine runs and its answer is on the way."
 abbrev pub afterServe : (f : Floor) (phase : Phase) (a b : ℕ) → Floor
@@ -96,7 +104,7 @@ afterLeave f s = withStation f s (withState (stationAt f s) state.Gone)
 
 -- what an accepted step leads to, and says
 abbrev pub effectOn : (f : Floor) (c : Command) → Stepped
-effectOn f (Begin s round v) = stepped (afterBegin f s round v) (said.Begun (f .used))
+effectOn f (Begin s round v) = stepped (afterBegin f s round v) (said.Begun (nextRow f))
 effectOn f (Serve p a b) = stepped (afterServe f p a b) (said.Served a)
 effectOn f (Deliver p a b) = deliveredOn f p a b
 effectOn f (Stop b) = stepped (afterStop f b) (said.Stopped b)
@@ -115,7 +123,7 @@ deliveredValue f phase a b =
     if isIn phase (ownerAt f a .state) a then heardValue f phase a b (verdictOn f phase a b) else a
 
 abbrev pub valueOn : (f : Floor) (c : Command) → ℕ
-valueOn f (Begin s round v) = f .used
+valueOn f (Begin s round v) = nextRow f
 valueOn f (Serve p a b) = a
 valueOn f (Deliver p a b) = deliveredValue f p a b
 valueOn f (Stop b) = b

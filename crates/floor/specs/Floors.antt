@@ -27,18 +27,21 @@ rowAt f a = getD (f .rows) a row0
 abbrev pub ownerAt : (f : Floor) (a : ℕ) → Station
 ownerAt f a = stationAt f (rowAt f a .station)
 
--- the floor f with one array, or the number of rows in use, replaced
+-- the floor f with one array, the number of rows in use, or the highest rank begun replaced
 abbrev pub withBoxes : (f : Floor) (boxes : List StorageBox) → Floor
-withBoxes f boxes = record { n = f .n; m = f .m; used = f .used; boxes = boxes; stations = f .stations; rows = f .rows }
+withBoxes f boxes = record { n = f .n; m = f .m; used = f .used; highest = f .highest; boxes = boxes; stations = f .stations; rows = f .rows }
 
 abbrev pub withStations : (f : Floor) (stations : List Station) → Floor
-withStations f stations = record { n = f .n; m = f .m; used = f .used; boxes = f .boxes; stations = stations; rows = f .rows }
+withStations f stations = record { n = f .n; m = f .m; used = f .used; highest = f .highest; boxes = f .boxes; stations = stations; rows = f .rows }
 
 abbrev pub withRows : (f : Floor) (rows : List Row) → Floor
-withRows f rows = record { n = f .n; m = f .m; used = f .used; boxes = f .boxes; stations = f .stations; rows = rows }
+withRows f rows = record { n = f .n; m = f .m; used = f .used; highest = f .highest; boxes = f .boxes; stations = f .stations; rows = rows }
 
 abbrev pub withUsed : (f : Floor) (used : ℕ) → Floor
-withUsed f used = record { n = f .n; m = f .m; used = used; boxes = f .boxes; stations = f .stations; rows = f .rows }
+withUsed f used = record { n = f .n; m = f .m; used = used; highest = f .highest; boxes = f .boxes; stations = f .stations; rows = f .rows }
+
+abbrev pub withHighest : (f : Floor) (highest : ℕ) → Floor
+withHighest f highest = record { n = f .n; m = f .m; used = f .used; highest = highest; boxes = f .boxes; stations = f .stations; rows = f .rows }
 
 -- the floor f with one box, one station or one row stored: all else stays
 abbrev pub withBox : (f : Floor) (b : ℕ) (x : StorageBox) → Floor
@@ -52,7 +55,7 @@ withRow f a w = withRows f (set (f .rows) a w)
 
 -- a floor of n boxes and m stations on which nothing has happened
 abbrev pub emptyFloor : (n m : ℕ) → Floor
-emptyFloor n m = record { n = n; m = m; used = 0; boxes = replicate 9 box0; stations = replicate 16 station0; rows = replicate 64 unusedRow }
+emptyFloor n m = record { n = n; m = m; used = 0; highest = 0; boxes = replicate 9 box0; stations = replicate 16 station0; rows = replicate 64 unusedRow }
 
 -- "3. n is not 1 to 9 or m is not 1 to 16 (also when a new floor is made)"; "a call with no floor to hand back gives the new
 -- floor of one box and one station"

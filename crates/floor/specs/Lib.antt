@@ -1,5 +1,6 @@
 pub mod Floors
 pub mod Sound
+pub mod Free
 pub mod Refusals
 pub mod Effects
 pub mod Step

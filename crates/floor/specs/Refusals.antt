@@ -10,9 +10,10 @@ use Rattle.commands.specs.declared.Command.the-variants.{Begin, Serve, Deliver,
 use Rattle.attempts.specs.Stations.{isGone, isBusy}
 use Rattle.attempts.specs.Rows.{requestsOf}
 use Rattle.floor.specs.Floors.{boxAt, stationAt, rowAt, ownerAt}
+use Rattle.floor.specs.Free.{nextRow}
 use Rattle.floor.specs.declared.Floor.{Floor}
 
--- 8, 9, 10, 11 (revision 0, round 0, a round not above the station's last), 12
+-- 8, 9, 10, 11 (revision 0, round 0, a round not above the station's last), 12 ("no row unused or free", wish 5 of document 02)
 unfoldable pub beginRefusal : (f : Floor) (station round revision : ℕ) → ℕ
 beginRefusal f station round revision =
     if leb (f .m) station then 8
@@ -21,7 +22,7 @@ beginRefusal f station round revision =
     else if eqb revision 0 then 11
     else if eqb round 0 then 11
     else if leb round (stationAt f station .last) then 11
-    else if leb 64 (f .used) then 12
+    else if leb 64 (nextRow f) then 12
     else 0
 
 -- 8 (attempt, box), 13, 14, of a read or a write

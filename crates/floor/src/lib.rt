@@ -13,6 +13,7 @@ ghost use Rattle.commands.specs.Commands.{commandOf};
 ghost use Rattle.commands.specs.Outcomes.{numberOf, valueOf};
 ghost use Rattle.floor.specs.Floors.{emptyFloor, newFloorOf};
 ghost use Rattle.floor.specs.Sound.{stationsBelow, soundOf};
+ghost use Rattle.floor.specs.Free.{nextRow};
 ghost use Rattle.floor.specs.Step.{applyOf, stepOf, refusalOf, valueSaid};
 ghost use Rattle.floor.specs.Runs.{stopsAt, runFrom, refusalBy, playedIn, drivenIn};
 ghost use Rattle.floor.specs.Claims.{Sound};
@@ -21,14 +22,18 @@ use attempts::State;
 use attempts::Station;
 use commands::Command;
 use commands::Outcome;
+use free::Lowest;
 use register::Register;
 use register::StorageBox;
 
-// The floor: n boxes, m stations, and the rows of the attempts begun, of which `used` are in use.
+mod free;
+
+// The floor: n boxes, m stations, the rows of attempts, of which `used` are in use, and the highest rank begun, 0 where none was.
 pub struct Floor {
     pub n: u8,
     pub m: u8,
     pub used: u8,
+    pub highest: u32,
     pub boxes: [StorageBox; 9],
     pub stations: [Station; 16],
     pub rows: [Row; 64],
@@ -92,6 +97,7 @@ fn empty(n: u8, m: u8) -> Floor
         n,
         m,
         used: 0,
+        highest: 0,
         boxes,
         stations,
         rows,
@@ -150,6 +156,38 @@ pub fn sound(f: Floor) -> bool
     stations_below(f)
 }
 
+// The same on a sound floor.
+fn next_sound(f: Floor) -> u8
+    requires { ⌜ Sound f ⌝ }
+    ensures { λ r. ⌜ r ≡ nextRow f ⌝ }
+{
+    if f.used < 64 {
+        return f.used;
+    }
+    let mut found = Lowest { row: 64, rank: 0 };
+    let mut a: u8 = 0;
+    while a < 64 {
+        let w = f.rows[a as usize];
+        let owner = f.stations[w.station as usize];
+        let state = owner.state;
+        let boxes = f.boxes;
+        found = free::better(found, w, state, boxes, f.n, a);
+        a += 1;
+    }
+    found.row
+}
+
+// The row that a begin takes on a sound floor: the next, or with all 64 used the free one with the smallest rank, of equals the lowest.
+// 64 where no row is unused or free, and where the floor is not sound.
+pub fn next_row(f: Floor) -> u8
+    ensures { λ r. ⌜ r ≡ (if soundOf f then nextRow f else 64) ⌝ }
+{
+    if !sound(f) {
+        return 64;
+    }
+    next_sound(f)
+}
+
 // A run ends behind a step that said so.
 fn stops(until: Until, o: Outcome) -> bool
     ensures { λ r. ⌜ r ≡ stopsAt until o ⌝ }
@@ -199,13 +237,24 @@ fn run_sound(mut f: Floor, first: Command, records: &[u8], until: Until) -> Ran
     let mut c = first;
     let mut k: usize = 0;
     loop {
-        let i = parts::row_place(f.used, c) as usize;
+        let mut found = free::start(f.used, c);
+        let mut a = free::first(found);
+        while a < 64 {
+            let w = f.rows[a as usize];
+            let owner = f.stations[w.station as usize];
+            let state = owner.state;
+            let boxes = f.boxes;
+            found = free::better(found, w, state, boxes, f.n, a);
+            a += 1;
+        }
+        let next = found.row;
+        let i = parts::row_place(next, c) as usize;
         let b = parts::box_place(c) as usize;
         let row = f.rows[i];
         let j = parts::station_place(row.station, c) as usize;
         let storage = f.boxes[b];
         let station = f.stations[j];
-        let x = parts::gathered(f.n, f.m, f.used, row, storage, station);
+        let x = parts::gathered(f.n, f.m, f.used, next, f.highest, row, storage, station);
         let y = parts::change(x, c);
         let o = y.outcome;
         if commands::refused(o) {
@@ -223,6 +272,7 @@ fn run_sound(mut f: Floor, first: Command, records: &[u8], until: Until) -> Ran
         f.boxes[b] = storage2;
         f.stations[j] = station2;
         f.used = z.used;
+        f.highest = z.highest;
         if over(count - k, until, o) {
             return Ran {
                 floor: f,

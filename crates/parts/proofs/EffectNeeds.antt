@@ -5,26 +5,14 @@ use mathlib.Core.Path.{_≡_, subst}
 use borrow.Author.Tests.{leb-false}
 use Rattle.base.proofs.Choices.{passed}
 use Rattle.requests.specs.declared.Phase.{Phase}
-use Rattle.parts.specs.Parts.{beginIn, deliverIn, refusalIn}
+use Rattle.parts.specs.Parts.{deliverIn, refusalIn}
 use Rattle.parts.specs.declared.Parts.{Parts}
 use Rattle.commands.specs.declared.Command.{Command}
-use Rattle.commands.specs.declared.Command.the-variants.{Begin, Deliver}
+use Rattle.commands.specs.declared.Command.the-variants.{Deliver}
 
 module _ (p : Parts) (c : Command) (e : refusalIn p c ≡ 0) where
   accepted : (x : Command) → c ≡ x → refusalIn p x ≡ 0
   accepted x q = subst (λ (y : Command). refusalIn p y ≡ 0) q e
-
-  pub begin-needs : (s round v : ℕ) → c ≡ Begin s round v → p .used < 64
-  unfolding beginIn
-  begin-needs s round v q =
-      let x₁ = passed _ _ _ (accepted _ q) (omega arith) in
-      let x₂ = passed _ _ _ (x₁ .1) (omega arith) in
-      let x₃ = passed _ _ _ (x₂ .1) (omega arith) in
-      let x₄ = passed _ _ _ (x₃ .1) (omega arith) in
-      let x₅ = passed _ _ _ (x₄ .1) (omega arith) in
-      let x₆ = passed _ _ _ (x₅ .1) (omega arith) in
-      let x₇ = passed _ _ _ (x₆ .1) (omega arith) in
-      leb-false _ _ (x₇ .0)
 
   pub deliver-needs : p .n ≤ 9 → (f : Phase) (a b : ℕ) → c ≡ Deliver f a b → b < 9
   unfolding deliverIn

@@ -1,10 +1,11 @@
 -- Internal. The parts of a floor that the loop of `floor` reads for one step and stores behind it, and the step on these alone: words of
 -- private contracts. No promise rests on this file: what a step is on a floor stands in crates/floor/specs, and crates/floor/proofs/Joins
 -- shows that on a sound floor the two are the same.
-use Prim.Native.Nat.{ℕ, _+_}
+use Prim.Native.Nat.{ℕ, max}
 use mathlib.Core.Bool.{true}
 use lib.Dec.{eqb, leb, ltb}
 use Rattle.base.specs.Choice.{if_then_else_}
+use Rattle.base.specs.Numbers.{rankOf}
 use Rattle.register.specs.Register.{withRegister}
 use Rattle.register.specs.declared.StorageBox.{StorageBox}
 use Rattle.requests.specs.Requests.{ofPhase, standingOf, isWaiting, isOnTheWay, verdictOf}
@@ -15,7 +16,7 @@ use Rattle.commands.specs.declared.Command.{Command}
 use Rattle.commands.specs.declared.Command.the-variants.{Begin, Serve, Deliver, Stop, Leave, Malformed}
 use Rattle.commands.specs.declared.Outcome.the-variants as said
 use Rattle.attempts.specs.Stations.{isGone, isBusy, isIn, withState}
-use Rattle.attempts.specs.Rows.{requestsOf, newRow, revisionOf, issued, rowServed, registerServed, requestsHeard, rowHeard}
+use Rattle.attempts.specs.Rows.{requestsOf, newRow, revisionOf, usedAfter, issued, rowServed, registerServed, requestsHeard, rowHeard}
 use Rattle.attempts.specs.declared.State.the-variants as state
 use Rattle.attempts.specs.declared.Station.{Station}
 use Rattle.attempts.specs.declared.Row.{Row}
@@ -26,15 +27,15 @@ use Rattle.parts.specs.declared.Changed.{Changed}
 unfoldable pub placeIn : (limit x : ℕ) → ℕ
 placeIn limit x = if ltb x limit then x else 0
 
--- The row, the box and the station that a command names, where `used` rows are in use and the row named belongs to `owner`. A begin
--- names the next row. Where a command names none, place 0 is read and stored back.
-abbrev pub attemptIn : (used : ℕ) (c : Command) → ℕ
-attemptIn used (Begin s round v) = used
-attemptIn used (Serve p a b) = a
-attemptIn used (Deliver p a b) = a
-attemptIn used (Stop b) = 0
-attemptIn used (Leave s) = 0
-attemptIn used Malformed = 0
+-- The row, the box and the station that a command names, where a begin takes the row `next` and the row named belongs to `owner`. Where
+-- a command names none, place 0 is read and stored back.
+abbrev pub attemptIn : (next : ℕ) (c : Command) → ℕ
+attemptIn next (Begin s round v) = next
+attemptIn next (Serve p a b) = a
+attemptIn next (Deliver p a b) = a
+attemptIn next (Stop b) = 0
+attemptIn next (Leave s) = 0
+attemptIn next Malformed = 0
 
 abbrev pub boxIn : (c : Command) → ℕ
 boxIn (Begin s round v) = 0
@@ -61,7 +62,7 @@ beginIn x s round v =
     else if eqb v 0 then 11
     else if eqb round 0 then 11
     else if leb round (x .station .last) then 11
-    else if leb 64 (x .used) then 12
+    else if leb 64 (x .next) then 12
     else 0
 
 unfoldable pub serveIn : (x : Parts) (p : Phase) (a b : ℕ) → ℕ
@@ -102,7 +103,8 @@ refusalIn x Malformed = 7
 
 -- row, box and station replaced
 abbrev pub withParts : (x : Parts) (row : Row) (storage : StorageBox) (station : Station) → Parts
-withParts x row storage station = record { n = x .n; m = x .m; used = x .used; row = row; storage = storage; station = station }
+withParts x row storage station =
+    record { n = x .n; m = x .m; used = x .used; next = x .next; highest = x .highest; row = row; storage = storage; station = station }
 
 -- What an accepted step does to the parts, and what it says.
 unfoldable pub begun : (x : Parts) (s round v : ℕ) → Changed
@@ -111,12 +113,14 @@ begun x s round v =
       parts = record {
         n = x .n;
         m = x .m;
-        used = x .used + 1;
+        used = usedAfter (x .used);
+        next = x .next;
+        highest = max (x .highest) (rankOf round s);
         row = newRow (x .n) s round v;
         storage = x .storage;
-        station = record { state = state.Reading (x .used); last = round; decided = x .station .decided };
+        station = record { state = state.Reading (x .next); last = round; decided = x .station .decided };
       };
-      outcome = said.Begun (x .used);
+      outcome = said.Begun (x .next);
     }
 
 unfoldable pub served : (x : Parts) (p : Phase) (a b : ℕ) → Changed

@@ -1,6 +1,6 @@
 // A begin on the parts that it looks at: its refusal, and its effect where it is accepted.
 ghost use mathlib.Core.Path.{_≡_};
-ghost use Prim.Native.Nat.{_<_};
+ghost use Prim.Native.Nat.{max};
 ghost use Rattle.parts.specs.Parts.{beginIn, begun};
 use crate::Changed;
 use crate::Parts;
@@ -33,21 +33,32 @@ pub(crate) fn begin_refusal(x: Parts, s: u8, round: u16, v: u32) -> u8
     if round <= st.last {
         return 11;
     }
-    if 64 <= x.used {
+    if 64 <= x.next {
         return 12;
     }
     0
 }
 
+fn larger(x: u32, y: u32) -> u32
+    ensures { λ r. ⌜ r ≡ max x y ⌝ }
+{
+    if x < y {
+        return y;
+    }
+    x
+}
+
 pub(crate) fn begin(x: Parts, s: u8, round: u16, v: u32) -> Changed
-    requires { ⌜ x .used < 64 ⌝ }
     ensures { λ r. ⌜ r ≡ begun x s round v ⌝ }
 {
-    let a = x.used;
+    let a = x.next;
     let st = x.station;
     let row = attempts::new_row(x.n, s, round, v);
+    let used = attempts::used_after(x.used);
+    let highest = larger(x.highest, (round as u32) * 16 + (s as u32));
     let mut y = x;
-    y.used = a + 1;
+    y.used = used;
+    y.highest = highest;
     y.row = row;
     let station = Station {
         state: State::Reading(a),

@@ -19,11 +19,14 @@ pub use places::box_place;
 pub use places::row_place;
 pub use places::station_place;
 
-// The parts of a floor that one step looks at, and all that it can change.
+// The parts of a floor that one step looks at, and all that it can change. `next` is the row that a begin takes, 64 or above where there
+// is none; no step but a begin looks at it.
 pub struct Parts {
     pub n: u8,
     pub m: u8,
     pub used: u8,
+    pub next: u8,
+    pub highest: u32,
     pub row: Row,
     pub storage: StorageBox,
     pub station: Station,
@@ -35,13 +38,24 @@ pub struct Changed {
     pub outcome: Outcome,
 }
 
-pub fn gathered(n: u8, m: u8, used: u8, row: Row, storage: StorageBox, station: Station) -> Parts
-    ensures { λ r. ⌜ r ≡ record { n = n; m = m; used = used; row = row; storage = storage; station = station } ⌝ }
+pub fn gathered(
+    n: u8,
+    m: u8,
+    used: u8,
+    next: u8,
+    highest: u32,
+    row: Row,
+    storage: StorageBox,
+    station: Station,
+) -> Parts
+    ensures { λ r. ⌜ r ≡ record { n = n; m = m; used = used; next = next; highest = highest; row = row; storage = storage; station = station } ⌝ }
 {
     Parts {
         n,
         m,
         used,
+        next,
+        highest,
         row,
         storage,
         station,

@@ -18,11 +18,11 @@ fn place(limit: u8, x: u8) -> u8
     0
 }
 
-fn attempt_in(used: u8, c: Command) -> u8
-    ensures { λ r. ⌜ r ≡ attemptIn used c ⌝ }
+fn attempt_in(next: u8, c: Command) -> u8
+    ensures { λ r. ⌜ r ≡ attemptIn next c ⌝ }
 {
     match c {
-        Command::Begin(_, _, _) => used,
+        Command::Begin(_, _, _) => next,
         Command::Serve(_, a, _) => a,
         Command::Deliver(_, a, _) => a,
         Command::Stop(_) => 0,
@@ -57,11 +57,11 @@ fn station_in(owner: u8, c: Command) -> u8
     }
 }
 
-// The place of the row that a command names, where `used` rows are in use.
-pub fn row_place(used: u8, c: Command) -> u8
-    ensures { λ r. ⌜ (r ≡ placeIn 64 (attemptIn used c)) × (r < 64) ⌝ }
+// The place of the row that a command names, where a begin takes the row `next`.
+pub fn row_place(next: u8, c: Command) -> u8
+    ensures { λ r. ⌜ (r ≡ placeIn 64 (attemptIn next c)) × (r < 64) ⌝ }
 {
-    place(64, attempt_in(used, c))
+    place(64, attempt_in(next, c))
 }
 
 pub fn box_place(c: Command) -> u8

@@ -26,6 +26,8 @@ use Rattle.attempts.specs.declared.Station.{Station}
 use Rattle.attempts.specs.declared.Row.{Row}
 use Rattle.floor.specs.Floors.{boxAt, rowAt}
 use Rattle.floor.specs.Effects.{stepped, afterBegin}
+use Rattle.floor.specs.Free.{nextRow}
+use Rattle.floor.proofs.FreeLaws.{next-in}
 use Rattle.floor.specs.Step.{refused, applyOf}
 use Rattle.floor.specs.Runs.{stopsAt, runFrom, runOf}
 use Rattle.floor.specs.Claims.{CanBegin, Sound, Lengths}
@@ -68,16 +70,16 @@ module _ (f : Floor) (s v : ℕ) (highest : Bool) (z : Sound f) (l : Lengths f) 
   round = roundOf f s
 
   abbrev attempt : Attempt
-  attempt = record { n = f .n; number = f .used; station = s; rank = rankOf round s; boxes = f .boxes; highest = highest }
+  attempt = record { n = f .n; number = nextRow f; station = s; rank = rankOf round s; boxes = f .boxes; highest = highest }
 
   abbrev begunFloor : Floor
   begunFloor = afterBegin f s round v
 
-  begins : applyOf f (Begin s round v) ≡ stepped begunFloor (Begun (f .used))
+  begins : applyOf f (Begin s round v) ≡ stepped begunFloor (Begun (nextRow f))
   begins = begin-accepted f z s round v can
 
-  new-row : rowAt begunFloor (f .used) ≡ newRow (f .n) s round v
-  new-row = row-stored f l z (f .used) (newRow (f .n) s round v) (can .row)
+  new-row : rowAt begunFloor (nextRow f) ≡ newRow (f .n) s round v
+  new-row = row-stored f l z (nextRow f) (newRow (f .n) s round v) (can .row)
 
   begun-driven : Driven attempt Read 0 begunFloor
   unfolding newRow
@@ -85,25 +87,25 @@ module _ (f : Floor) (s v : ℕ) (highest : Bool) (z : Sound f) (l : Lengths f) 
     sound = subst (λ (x : Stepped). Sound (x .floor)) begins (apply-keeps f (Begin s round v) z);
     lengths = subst (λ (x : Stepped). Lengths (x .floor)) begins (apply-lengths f (Begin s round v) l);
     size = refl;
-    begun = omega arith;
+    begun = next-in f (can .row);
     owner = ap (λ (w : Row). w .station) new-row;
     rank = ap (λ (w : Row). w .rank) new-row;
     boxes = λ j. record { stopped = refl; read = λ i. low j i .0; write = λ i _. low j i .1 };
     state = ap (λ (x : Station). x .state) (station-stored f l z s _ (can .station));
   }
 
-  begun-reads : RequestsAt attempt 0 0 (rowAt begunFloor (f .used) .read)
+  begun-reads : RequestsAt attempt 0 0 (rowAt begunFloor (nextRow f) .read)
   unfolding newRow
   begun-reads = rw new-row (all-wait (f .n) _ _ (λ j h. ap (λ (x : Slot). x .stage) (wait-below (f .n) (z .box-most) j h)))
 
-  rest-driven : (bs : List ℕ) → length bs ≡ quorum (f .n) → Ascending attempt 0 bs → Leads attempt 1 begunFloor (exchanges Read (f .used) bs ++ exchanges Write (f .used) bs)
+  rest-driven : (bs : List ℕ) → length bs ≡ quorum (f .n) → Ascending attempt 0 bs → Leads attempt 1 begunFloor (exchanges Read (nextRow f) bs ++ exchanges Write (nextRow f) bs)
   rest-driven [] h u = absurd (omega arith)
   rest-driven (b ∷ bs) h u = both-driven attempt bs b h u begunFloor (record { floor = begun-driven; requests = begun-reads })
 
   run-ends : AtEnd attempt (runOf End f (beginOf f s v) (exchangesOf f))
   unfolding exchangesOf lowest stopsAt if_then_else_
   run-ends =
-      step-on attempt 0 f begunFloor (Begin s round v) (Begun (f .used)) begins _ refl
+      step-on attempt 0 f begunFloor (Begin s round v) (Begun (nextRow f)) begins _ refl
       (rest-driven (askedOf f) (length-take-le (quorum (f .n)) (answering f) enough)
       (take-ascends attempt (quorum (f .n)) 0 (answering f) (answering-ascends attempt (f .n) 0 0 (omega arith) (omega arith))))
 
@@ -150,7 +152,7 @@ module _ (f : Floor) (s v : ℕ) (l : Lengths f) where
   run-back k [] e = rw (decode-encode begin, e)
   run-back k (r ∷ rs) e = rw (decode-encode begin, e)
 
-  ended : {t : Attempt} {o : Outcome} {k : ℕ} (d : Solo) → t .n ≡ f .n → t .number ≡ f .used → d .outcome ≡ o → d .steps ≡ k → Over t o k → Ends f d
+  ended : {t : Attempt} {o : Outcome} {k : ℕ} (d : Solo) → t .n ≡ f .n → t .number ≡ nextRow f → d .outcome ≡ o → d .steps ≡ k → Over t o k → Ends f d
   ended d z y e n (has-decided v) = decided v e (rw z at n)
   ended d z y e n (has-aborted u) = aborted (e ∙ ap Aborted y) (rw z at n)
   ended d z y e n (was-outranked u k l m) = outranked k l (rw z at m) (e ∙ ap Aborted y) n

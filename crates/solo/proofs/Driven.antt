@@ -33,13 +33,15 @@ use Rattle.floor.specs.Step.{applyOf}
 use Rattle.attempts.proofs.StationTests.{reading-holds, writing-holds, here-in}
 use Rattle.floor.proofs.Accepts.{serve-accepted, received, aborted, write-issued, write-decided}
 use Rattle.floor.proofs.Keeps.{apply-keeps, apply-lengths, apply-sizes, used-stored, owner-stored}
-use Rattle.floor.proofs.RowLaws.{apply-used, row-same, requests-put}
+use Rattle.floor.proofs.RowLaws.{used-stays, row-same, requests-put}
 use Rattle.attempts.specs.declared.State.{State}
 use Rattle.attempts.specs.declared.State.the-variants.{Reading, Writing}
 use Rattle.attempts.specs.declared.Station.{Station}
 use Rattle.attempts.specs.declared.Row.{Row}
 use Rattle.floor.specs.declared.Floor.{Floor}
 use Rattle.floor.specs.declared.Stepped.{Stepped}
+use Rattle.base.proofs.Cases.{clash}
+use Rattle.commands.specs.Outcomes.{isBegun}
 use Rattle.commands.specs.declared.Outcome.the-variants.{Served, Received, WriteIssued, Decided, Aborted}
 use Rattle.commands.specs.declared.Command.{Command}
 use Rattle.commands.specs.declared.Command.the-variants.{Serve, Deliver}
@@ -89,15 +91,15 @@ abbrev pub RequestsSent : Attempt → ℕ → ℕ → Requests → Type 0
 RequestsSent t b k h = Sent (t .n) (λ j. slotAt h j .stage) (h .heard) (λ j. t .highest ≡ true → slotAt h j .ok ≡ true) b k
 
 -- the floor after an accepted step
-driven-on : {t : Attempt} {f next : Phase} {p q : ℕ} {g : Floor} (c : Command) (x : Stepped) → Driven t f p g → applyOf g c ≡ x
+driven-on : {t : Attempt} {f next : Phase} {p q : ℕ} {g : Floor} (c : Command) (x : Stepped) → Driven t f p g → applyOf g c ≡ x → isBegun (x .outcome) ≡ false
     → ((j : ℕ) → BoxOk t (askedBelow next q) j (boxAt (x .floor) j)) → stationAt (x .floor) (t .station) .state ≡ stateIn next (t .number) → Driven t next q (x .floor)
-driven-on {t} {g = g} c x d e b s =
-    let r = row-same g c (t .number) (d .begun) in
+driven-on {t} {g = g} c x d e o b s =
+    let r = row-same g c (t .number) (λ q. clash (ap isBegun q) (ap (λ (y : Stepped). isBegun (y .outcome)) e ∙ o)) in
     record {
       sound = subst (λ (y : Stepped). Sound (y .floor)) e (apply-keeps g c (d .sound));
       lengths = subst (λ (y : Stepped). Lengths (y .floor)) e (apply-lengths g c (d .lengths));
       size = ap (λ (y : Stepped). y .floor .n) (sym e) ∙ apply-sizes g c .boxes ∙ d .size;
-      begun = subst (λ (y : Stepped). t .number < y .floor .used) e (omega (arith, apply-used g c, d .begun));
+      begun = subst (λ (y : Stepped). t .number < y .floor .used) e (used-stays g c (t .number) (d .begun));
       owner = ap (λ (y : Stepped). rowAt (y .floor) (t .number) .station) (sym e) ∙ r .station ∙ d .owner;
       rank = ap (λ (y : Stepped). rowAt (y .floor) (t .number) .rank) (sym e) ∙ r .rank ∙ d .rank;
       boxes = b;
@@ -180,7 +182,7 @@ module _ {t : Attempt} {g : Floor} {p k : ℕ} (f : Phase) (d : Driven t f p g) 
 
   pub served-driven : Driven t f (b + 1) (afterServe g f (t .number) b)
   served-driven =
-      driven-on (Serve f (t .number) b) _ d served
+      driven-on (Serve f (t .number) b) _ d served refl
       (set-all box0 (BoxOk t (askedBelow f (b + 1))) (g .boxes) b _ (λ j. box-later f l (d .boxes j)) (box-served p f (rowAt g (t .number)) (d .rank) (d .boxes b))) (d .state)
 
   pub served-sent : RequestsSent t b k (requestsOf f (rowAt (afterServe g f (t .number) b) (t .number)))
@@ -216,7 +218,7 @@ module _ {t : Attempt} {g : Floor} {b k : ℕ} (f : Phase) (d : Driven t f (b + 
       more = received g (d .sound) (t .number) b f can (inr (verdict-open _ (g .n) f unfilled y))
 
       pub more-driven : Driven t f (b + 1) (withRow g (t .number) (heardRow g f (t .number) b))
-      more-driven = driven-on (Deliver f (t .number) b) _ d more (d .boxes) (d .state)
+      more-driven = driven-on (Deliver f (t .number) b) _ d more refl (d .boxes) (d .state)
 
     pub more-requests : RequestsAt t (b + 1) (k + 1) (requestsOf f (rowAt (withRow g (t .number) (heardRow g f (t .number) b)) (t .number)))
     more-requests =
@@ -246,7 +248,7 @@ module _ {t : Attempt} {g : Floor} {b k : ℕ} (d : Driven t Read (b + 1) g) (h 
 
   pub read-last-driven : Driven t Write 0 issuedFloor
   read-last-driven =
-      driven-on (Deliver Read (t .number) b) _ d read-last (d .boxes)
+      driven-on (Deliver Read (t .number) b) _ d read-last refl (d .boxes)
       (subst (λ (i : ℕ). stationAt issuedFloor i .state ≡ Writing (t .number)) (d .owner)
       (ap (λ (x : Station). x .state) (owner-stored g (d .lengths) (d .sound) (t .number) _ (d .begun))))
 

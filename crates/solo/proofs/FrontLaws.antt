@@ -12,10 +12,11 @@ use Rattle.attempts.specs.Stations.{isGone, isBusy}
 use Rattle.floor.specs.Floors.{stationAt}
 use Rattle.floor.specs.Sound.{soundOf}
 use Rattle.floor.specs.Runs.{runOf}
+use Rattle.floor.specs.Free.{nextRow}
 use Rattle.floor.specs.declared.Floor.{Floor}
 use Rattle.floor.specs.declared.Until.the-variants.{End}
 use Rattle.floor.proofs.RefusalLaws.{positive}
-use Rattle.solo.specs.Plan.{highestBegun, roundAbove, roundOf, answering, beginOf, exchangesOf}
+use Rattle.solo.specs.Plan.{roundOf, answering, beginOf, exchangesOf}
 use Rattle.solo.specs.Solo.{frontRefusal, soloRefusal, turnedAway, ofRun, soloOf, soloNumber, soloValue}
 use Rattle.solo.specs.declared.Solo.{Solo}
 
@@ -26,7 +27,7 @@ pub record MayFinish (f : Floor) (s v round : ℕ) : Type 0 where
   pub free : isBusy (stationAt f s .state) ≡ false
   pub offer : 0 < v
   pub left : round ≤ 65535
-  pub row : f .used < 64
+  pub row : nextRow f < 64
   pub boxes : quorum (f .n) ≤ length (answering f)
 
 module _ (f : Floor) (s v round : ℕ) where
@@ -95,10 +96,7 @@ ends-unsound f s v r z h =
     let k = refusal-unsound f s v z in
     h ∙ rw k at (sym (solo-refused f s v (λ (e : soloRefusal f s v ≡ 0). omega (arith, k))))
 
-module _ (f : Floor) (s v h round k : ℕ) (r : Solo) (z : soundOf f ≡ true) (eh : h ≡ highestBegun f) (er : round ≡ roundAbove h s) (ek : k ≡ frontRefusal f s v round) where
-  picked : round ≡ roundOf f s
-  picked = er ∙ rw eh
-
+module _ (f : Floor) (s v round k : ℕ) (r : Solo) (z : soundOf f ≡ true) (picked : round ≡ roundOf f s) (ek : k ≡ frontRefusal f s v round) where
   first : k ≡ soloRefusal f s v
   first = ek ∙ rw picked (sym (refusal-sound f s v z))
 

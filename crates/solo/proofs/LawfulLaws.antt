@@ -1,30 +1,34 @@
 -- A new floor is lawful, and every step keeps a lawful floor lawful.
-use Prim.Native.Nat.{ℕ, zero, suc, _+_, _≤_}
+use Prim.Native.Nat.{ℕ, zero, suc, _≤_, _<_}
 use native.Mathlib.Omega.{arith}
-use mathlib.Core.Path.{_≡_, refl, ap, subst, _∙_}
+use native.Mathlib.Decide.{ℕ-discrete}
+use mathlib.Core.Path.{_≡_, refl, sym, ap, subst, _∙_}
 use mathlib.Core.Logic.{inl, inr}
 use mathlib.Core.List.{List, []}
-use lib.ListN.{getD, set}
-use lib.Seq.{getD-set-same}
+use mathlib.Core.Bool.{true}
+use lib.ListN.{getD}
+use lib.Seq.{getD-set-other}
 use Rattle.base.specs.Numbers.{sizesRight, rankOf}
-use Rattle.base.proofs.Choices.{by-test}
+use Rattle.base.proofs.Choices.{on-false, by-test}
 use Rattle.register.specs.Register.{box0}
 use Rattle.attempts.specs.Stations.{station0}
 use Rattle.attempts.specs.Rows.{row0, newRow}
-use Rattle.floor.specs.Floors.{emptyFloor, newFloorOf}
+use Rattle.floor.specs.Floors.{rowAt, emptyFloor, newFloorOf}
+use Rattle.floor.specs.Free.{nextRow}
+use Rattle.floor.specs.Effects.{afterBegin}
+use Rattle.floor.proofs.FreeLaws.{next-other}
 use Rattle.commands.specs.Commands.{commandOf}
-use Rattle.commands.specs.Outcomes.{isRefused}
+use Rattle.commands.specs.Outcomes.{isRefused, isBegun}
 use Rattle.floor.specs.Step.{applyOf, stepOf}
 use Rattle.floor.specs.Runs.{floorAt}
-use Rattle.base.proofs.Cases.{clash}
+use Rattle.base.proofs.Cases.{clash, by-cases}
 use Rattle.base.proofs.Stores.{getD-same}
 use Rattle.base.specs.Claims.{Sizes}
 use Rattle.base.proofs.SizeLaws.{sizes-mean}
-use Rattle.floor.proofs.StepCases.{StepCase, turned, began, apply-case}
-use Rattle.floor.specs.Claims.{Lengths}
-use Rattle.floor.proofs.Keeps.{apply-keeps, apply-lengths, empty-sound, empty-lengths}
+use Rattle.floor.proofs.StepCases.{StepCase, turned, began, served, heard, issued, decided, aborted, stopped, left, apply-case}
+use Rattle.floor.proofs.Keeps.{apply-keeps, apply-lengths, empty-sound, empty-lengths, row-stored}
 use Rattle.floor.proofs.BoxLaws.{box-grown}
-use Rattle.floor.proofs.RowLaws.{apply-used, row-same}
+use Rattle.floor.proofs.RowLaws.{apply-used, apply-highest, row-same}
 use Rattle.floor.proofs.StationLaws.{last-from}
 use Rattle.attempts.specs.declared.Row.{Row}
 use Rattle.attempts.specs.declared.Station.{Station}
@@ -36,44 +40,64 @@ use Rattle.commands.specs.declared.Command.{Command}
 use Rattle.commands.specs.declared.Command.the-variants.{Begin}
 use Rattle.solo.specs.Plan.{highestBegun}
 use Rattle.solo.specs.Claims.{Lawful}
-use Rattle.solo.proofs.RoundLaws.{highest-each, highest-most}
 
--- the rank begun is that of the new row
-begun-ranked : {f : Floor} {s round v : ℕ} {x : Stepped} → StepCase f (Begin s round v) x → Lengths f → x .outcome ≡ Begun (f .used) → rankOf round s ≤ highestBegun (x .floor)
+-- the rank begun is at most the highest
+begun-ranked : {f : Floor} {s round v : ℕ} {x : Stepped} → StepCase f (Begin s round v) x → x .outcome ≡ Begun (nextRow f) → rankOf round s ≤ highestBegun (x .floor)
+begun-ranked (turned k t) e = clash refl (ap isRefused e)
+begun-ranked (began z d) e = omega arith
+
+-- a begin: the row taken has its rank, and the other rows in use keep theirs
+begun-rows : {f : Floor} {c : Command} {x : Stepped} → StepCase f c x → isBegun (x .outcome) ≡ true → Lawful f → (a : ℕ) → a < x .floor .used
+    → rowAt (x .floor) a .rank ≤ highestBegun (x .floor)
 unfolding newRow
-begun-ranked (turned k t) l e = clash refl (ap isRefused e)
-begun-ranked {f} {s} {round} {v} (began z d) l e =
-    let w = getD-set-same (f .rows) (f .used) (newRow (f .n) s round v) row0 (omega (arith, d .row, l .rows)) in
-    omega (arith, ap (λ (x : Row). x .rank) w, highest-each (set (f .rows) (f .used) (newRow (f .n) s round v)) (f .used + 1) (f .used) (omega arith))
+begun-rows (turned k t) e y a h = clash e refl
+begun-rows {f} (began {s = s} {round = r} {v = v} z d) e y a h = elim (ℕ-discrete a (nextRow f)) [
+  | yes q ↦ omega (arith, ap (λ (i : ℕ). rowAt (afterBegin f s r v) i .rank) q, ap (λ (w : Row). w .rank) (row-stored f (y .lengths) z (nextRow f) (newRow (f .n) s r v) (d .row)))
+  | no q ↦ omega (arith, ap (λ (w : Row). w .rank) (getD-set-other (f .rows) (nextRow f) a (newRow (f .n) s r v) row0 q), y .rows a (next-other f a h q))
+]
+begun-rows (served z d) e y a h = clash e refl
+begun-rows (heard z d q) e y a h = clash e refl
+begun-rows (issued z d r q t) e y a h = clash e refl
+begun-rows (decided z d r q t) e y a h = clash e refl
+begun-rows (aborted z d r q t) e y a h = clash e refl
+begun-rows (stopped z d) e y a h = clash e refl
+begun-rows (left z d) e y a h = clash e refl
 
 module _ (f : Floor) (c : Command) where
   abbrev g : Floor
   g = applyOf f c .floor
 
-  -- the rows in use stay in use, with their ranks
+  -- the highest rank begun never falls
   highest-rises : highestBegun f ≤ highestBegun g
-  highest-rises =
-      highest-most (f .rows) (f .used) (highestBegun g)
-      (λ a h. omega (arith, highest-each (g .rows) (g .used) a (omega (arith, apply-used f c)), row-same f c a h .rank))
+  highest-rises = elim (apply-highest f c) [ inl e ↦ omega (arith, e) | inr r ↦ omega (arith, r .highest) ]
+
+  -- no row in use has a higher one
+  rows-ranked : Lawful f → (a : ℕ) → a < g .used → rowAt g a .rank ≤ highestBegun g
+  rows-ranked y a h =
+      by-cases (isBegun (applyOf f c .outcome)) (λ e. begun-rows (apply-case f c) e y a h)
+      (λ e.
+      let u : g .used ≡ f .used = apply-used f c ∙ sym (on-false _ e refl) in
+      omega (arith, row-same f c a (λ q. clash (ap isBegun q) e) .rank, y .rows a (omega arith), highest-rises))
 
   pub apply-lawful : Lawful f → Lawful g
   apply-lawful y = record {
     sound = apply-keeps f c (y .sound);
     lengths = apply-lengths f c (y .lengths);
+    rows = rows-ranked y;
     read = λ b. elim (box-grown f c b .read-from) [
       | inl e ↦ omega (arith, e, y .read b, highest-rises)
-      | inr h ↦ omega (arith, h .2, highest-each (f .rows) (f .used) (h .0) (h .1), highest-rises)
+      | inr h ↦ omega (arith, h .2, y .rows (h .0) (h .1), highest-rises)
     ];
     write = λ b. elim (box-grown f c b .held-from) [
       | inl e ↦ omega (arith, e .0, y .write b, highest-rises)
-      | inr h ↦ omega (arith, h .2, highest-each (f .rows) (f .used) (h .0) (h .1), highest-rises)
+      | inr h ↦ omega (arith, h .2, y .rows (h .0) (h .1), highest-rises)
     ];
     last = λ s. elim (last-from f c s) [
       | inl e ↦ elim (y .last s) [
         | inl z ↦ inl (e ∙ z)
         | inr h ↦ inr (omega (arith, e, h, highest-rises))
       ]
-      | inr b ↦ inr (begun-ranked (subst (λ (x : Command). StepCase f x (applyOf f c)) (b .command) (apply-case f c)) (y .lengths) (b .outcome))
+      | inr b ↦ inr (begun-ranked (subst (λ (x : Command). StepCase f x (applyOf f c)) (b .command) (apply-case f c)) (b .outcome))
     ];
   }
 
@@ -91,6 +115,7 @@ empty-lawful : (n m : ℕ) → Sizes n m → Lawful (emptyFloor n m)
 empty-lawful n m z = record {
   sound = empty-sound n m z;
   lengths = empty-lengths n m;
+  rows = λ a h. absurd (omega arith);
   read = λ b. rw (getD-same 9 b box0) (omega arith);
   write = λ b. rw (getD-same 9 b box0) (omega arith);
   last = λ s. inl (ap (λ (x : Station). x .last) (getD-same 16 s station0));

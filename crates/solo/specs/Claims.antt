@@ -12,6 +12,7 @@ use Rattle.commands.specs.declared.Command.the-variants.{Begin}
 use Rattle.commands.specs.declared.Outcome.the-variants.{Aborted, Decided}
 use Rattle.attempts.specs.declared.State.the-variants.{Idle}
 use Rattle.floor.specs.Floors.{boxAt, stationAt, rowAt, newFloorOf}
+use Rattle.floor.specs.Free.{nextRow}
 use Rattle.floor.specs.Step.{stepOf}
 use Rattle.floor.specs.Runs.{floorAt, saidAt}
 use Rattle.floor.specs.Claims.{Sound, Lengths}
@@ -20,11 +21,11 @@ use Rattle.solo.specs.Plan.{highestBegun, roundOf, answering, beginOf, p
 use Rattle.solo.specs.Solo.{turnedAway, soloOf, soloNumber, soloValue}
 use Rattle.solo.specs.declared.Solo.{Solo}
 
--- "the smallest round, at least 1, whose rank passes every rank begun on the floor"
+-- "the smallest round, at least 1, whose rank passes" the highest rank begun, whatever the rows say
 pub record Smallest (f : Floor) (s round : ℕ) : Type 0 where
   pub some : 1 ≤ round
-  pub passes : (a : ℕ) → a < f .used → rowAt f a .rank < rankOf round s
-  pub least : (r : ℕ) → 1 ≤ r → ((a : ℕ) → a < f .used → rowAt f a .rank < rankOf r s) → round ≤ r
+  pub passes : highestBegun f < rankOf round s
+  pub least : (r : ℕ) → 1 ≤ r → highestBegun f < rankOf r s → round ≤ r
 
 -- "the solo finish's step count is in its result struct and equals the length of the step list that leads to the returned floor": d is what the first records of the list l
 -- did to f, as many as d counts: each of them was accepted, and the last of them said what d says, unless d says a refusal
@@ -34,11 +35,12 @@ pub record Counted (f : Floor) (l : List (List ℕ)) (d : Solo) : Type 0 where
   pub accepted : (i : ℕ) → i < d .steps → isRefused (saidAt f l i) ≡ false
   pub last : isRefused (d .outcome) ≡ false → (i : ℕ) → suc i ≡ d .steps → saidAt f l i ≡ d .outcome
 
--- What holds of a new floor and is kept by every step: no box has served, and no station has begun, a rank above the highest
+-- What holds of a new floor and is kept by every step: no row has, no box has served, and no station has begun, a rank above the highest
 -- begun. A floor built by hand may lack it.
 pub record Lawful (f : Floor) : Type 0 where
   pub sound : Sound f
   pub lengths : Lengths f
+  pub rows : (a : ℕ) → a < f .used → rowAt f a .rank ≤ highestBegun f
   pub read : (b : ℕ) → boxAt f b .register .read ≤ highestBegun f
   pub write : (b : ℕ) → boxAt f b .register .write ≤ highestBegun f
   pub last : (s : ℕ) → (stationAt f s .last ≡ 0) ⊎ (rankOf (stationAt f s .last) s ≤ highestBegun f)
@@ -49,7 +51,7 @@ pub record Ready (f : Floor) (s v : ℕ) : Type 0 where
   pub idle : stationAt f s .state ≡ Idle
   pub offer : 1 ≤ v
   pub round : roundOf f s ≤ 65535
-  pub row : f .used < 64
+  pub row : nextRow f < 64
   pub boxes : quorum (f .n) ≤ length (answering f)
 
 -- it says decided, with some revision, after 4q + 1 steps
@@ -59,13 +61,13 @@ pub record DecidesAlone (f : Floor) (d : Solo) : Type 0 where
   pub steps : d .steps ≡ 4 * quorum (f .n) + 1
 
 -- What a solo finish on any floor comes to, one built by hand too: it is turned back with 0 steps and leaves the floor; or it takes
--- 4q + 1 steps, at the last of which the station decides or the attempt, the floor's next row, aborts; or the attempt aborts at its k-th
+-- 4q + 1 steps, at the last of which the station decides or the attempt, in the row that a begin takes, aborts; or the attempt aborts at its k-th
 -- read answer, after the begin and k exchanges.
 pub data Ends (f : Floor) (d : Solo) : Type 0 where
   turned : (k : ℕ) → d ≡ turnedAway f k → Ends f d
   decided : (v : ℕ) → d .outcome ≡ Decided v → d .steps ≡ 4 * quorum (f .n) + 1 → Ends f d
-  aborted : d .outcome ≡ Aborted (f .used) → d .steps ≡ 4 * quorum (f .n) + 1 → Ends f d
-  outranked : (k : ℕ) → 1 ≤ k → k ≤ quorum (f .n) → d .outcome ≡ Aborted (f .used) → d .steps ≡ 2 * k + 1 → Ends f d
+  aborted : d .outcome ≡ Aborted (nextRow f) → d .steps ≡ 4 * quorum (f .n) + 1 → Ends f d
+  outranked : (k : ℕ) → 1 ≤ k → k ≤ quorum (f .n) → d .outcome ≡ Aborted (nextRow f) → d .steps ≡ 2 * k + 1 → Ends f d
 
 -- What holds of every solo finish.
 pub record SoloClaims : Type 0 where

@@ -1,5 +1,5 @@
 -- Document 01, "Solo finish": the round that it picks, the boxes that it asks, and the list of its steps.
-use Prim.Native.Nat.{ℕ, zero, suc, _+_, _-_, _/_, max}
+use Prim.Native.Nat.{ℕ, zero, suc, _+_, _-_, _/_}
 use mathlib.Core.List.{List, [], _∷_, _++_}
 use lib.ListN.{getD, take}
 use Rattle.base.specs.Choice.{if_then_else_}
@@ -10,25 +10,19 @@ use Rattle.requests.specs.declared.Phase.{Phase}
 use Rattle.requests.specs.declared.Phase.the-variants.{Read, Write}
 use Rattle.commands.specs.Commands.{encodeOf}
 use Rattle.commands.specs.declared.Command.the-variants.{Begin, Serve, Deliver}
-use Rattle.attempts.specs.Rows.{row0}
-use Rattle.attempts.specs.declared.Row.{Row}
+use Rattle.floor.specs.Free.{nextRow}
 use Rattle.floor.specs.declared.Floor.{Floor}
 
--- the highest rank of the first k rows, 0 where k is 0
-unfoldable pub highestRank : (rows : List Row) (k : ℕ) → ℕ
-highestRank rows zero = 0
-highestRank rows (suc k) = max (highestRank rows k) (getD rows k row0 .rank)
-
--- "every rank begun on the floor": the highest of them, the start rank where none was begun
+-- "every rank begun on the floor": the highest of them, which wish 5 of document 02 has the floor keep, the start rank where none was begun
 abbrev pub highestBegun : (f : Floor) → ℕ
-highestBegun f = highestRank (f .rows) (f .used)
+highestBegun f = f .highest
 
 -- the smallest round of at least 1 whose rank for that station passes h
 unfoldable pub roundAbove : (h station : ℕ) → ℕ
 roundAbove h station = (h - station) / 16 + 1
 
--- "it picks the smallest round, at least 1, whose rank passes every rank begun on the floor"; that it is the smallest is the claim
--- `Smallest` in specs/Claims
+-- "it picks the smallest round, at least 1, whose rank passes every rank begun on the floor"; wish 5: "The solo finish goes by the highest
+-- rank begun alone". That it is the smallest is the claim `Smallest` in specs/Claims
 abbrev pub roundOf : (f : Floor) (station : ℕ) → ℕ
 roundOf f station = roundAbove (highestBegun f) station
 
@@ -60,13 +54,13 @@ exchanges phase a [] = []
 exchanges phase a (b ∷ bs) = exchange phase a b ++ exchanges phase a bs
 
 -- "It begins, serves and delivers the read at the q lowest-numbered answering boxes, one box after the other, then the write
--- likewise": the record of its begin, and those behind it. The attempt is the next row of the floor handed in, and the boxes are those
--- that answer there.
+-- likewise": the record of its begin, and those behind it. The attempt is the row that a begin takes on the floor handed in, and the boxes
+-- are those that answer there.
 abbrev pub beginOf : (f : Floor) (station revision : ℕ) → List ℕ
 beginOf f station revision = encodeOf (Begin station (roundOf f station) revision)
 
 unfoldable pub exchangesOf : (f : Floor) → List (List ℕ)
-exchangesOf f = exchanges Read (f .used) (askedOf f) ++ exchanges Write (f .used) (askedOf f)
+exchangesOf f = exchanges Read (nextRow f) (askedOf f) ++ exchanges Write (nextRow f) (askedOf f)
 
 -- the list of its steps
 abbrev pub planOf : (f : Floor) (station revision : ℕ) → List (List ℕ)

@@ -9,6 +9,7 @@ use Rattle.commands.specs.declared.Outcome.the-variants.{Refused}
 use Rattle.attempts.specs.Stations.{isGone, isBusy}
 use Rattle.floor.specs.Floors.{stationAt}
 use Rattle.floor.specs.Sound.{soundOf}
+use Rattle.floor.specs.Free.{nextRow}
 use Rattle.floor.specs.Runs.{runOf}
 use Rattle.floor.specs.declared.Floor.{Floor}
 use Rattle.floor.specs.declared.Until.the-variants.{End}
@@ -17,7 +18,7 @@ use Rattle.solo.specs.Plan.{roundOf, answering, beginOf, exchangesOf}
 use Rattle.solo.specs.declared.Solo.{Solo}
 
 -- on a sound floor, where `round` is the round picked: 8, 9, 10, 11 ("for a solo finish, revision 0 or no round left"; "If that
--- round exceeds 65,535 there is no round left"), 12, 15 ("A solo finish with fewer than q boxes not stopped"), 0 where none applies
+-- round exceeds 65,535 there is no round left"), 12 (wish 5 of document 02: "no row unused or free"), 15 ("A solo finish with fewer than q boxes not stopped"), 0 where none applies
 unfoldable pub frontRefusal : (f : Floor) (station revision round : ℕ) → ℕ
 frontRefusal f station revision round =
     if leb (f .m) station then 8
@@ -25,7 +26,7 @@ frontRefusal f station revision round =
     else if isBusy (stationAt f station .state) then 10
     else if eqb revision 0 then 11
     else if ltb 65535 round then 11
-    else if leb 64 (f .used) then 12
+    else if leb 64 (nextRow f) then 12
     else if ltb (length (answering f)) (quorum (f .n)) then 15
     else 0
 

@@ -4,15 +4,16 @@
 // moved for a step.
 ghost use mathlib.Core.Path.{_≡_};
 ghost use mathlib.Core.List.{_++_, flatten};
-ghost use Prim.Native.Nat.{_+_, _*_, _<_, _≤_, max};
+ghost use Prim.Native.Nat.{_+_, _*_, _<_, _≤_};
 ghost use lib.ListN.{length, take};
 ghost use lib.Dec.{ltb};
 ghost use Rattle.base.specs.Numbers.{quorum};
 ghost use Rattle.commands.specs.Outcomes.{numberOf, valueOf};
+ghost use Rattle.floor.specs.Free.{nextRow};
 ghost use Rattle.floor.specs.Runs.{runOf};
 ghost use Rattle.floor.specs.Claims.{Sound};
 ghost use Rattle.floor.specs.declared.Until.the-variants.{End};
-ghost use Rattle.solo.specs.Plan.{highestBegun, roundAbove, roundOf, answeringFrom, lowest, exchange, exchanges, beginOf, exchangesOf};
+ghost use Rattle.solo.specs.Plan.{roundAbove, roundOf, answeringFrom, lowest, exchange, exchanges, beginOf, exchangesOf};
 ghost use Rattle.solo.specs.Solo.{frontRefusal, turnedAway, ofRun, soloOf, soloNumber, soloValue};
 use commands::Command;
 use commands::Outcome;
@@ -35,30 +36,6 @@ fn turned_away(f: Floor, k: u8) -> Solo
         steps: 0,
         outcome: Outcome::Refused(k),
     }
-}
-
-fn larger(x: u32, y: u32) -> u32
-    ensures { λ r. ⌜ r ≡ max x y ⌝ }
-{
-    if x < y {
-        return y;
-    }
-    x
-}
-
-// The highest rank begun.
-fn highest(f: Floor) -> u32
-    requires { ⌜ f .used ≤ 64 ⌝ }
-    ensures { λ r. ⌜ r ≡ highestBegun f ⌝ }
-{
-    let mut h: u32 = 0;
-    let mut k: u8 = 0;
-    while k < f.used {
-        let w = f.rows[k as usize];
-        h = larger(h, w.rank);
-        k += 1;
-    }
-    h
 }
 
 // The smallest round of at least 1 whose rank for the station passes h.
@@ -97,9 +74,9 @@ fn too_few(boxes: [StorageBox; 9], n: u8) -> bool
     count_answering(boxes, n) < base::majority(n)
 }
 
-// The first of refusals 8 to 12 and 15 that applies, 0 where none does.
-fn refusal(f: Floor, s: u8, v: u32, round: u32) -> u8
-    requires { ⌜ (f .n ≤ 9) × (f .m ≤ 16) ⌝ }
+// The first of refusals 8 to 12 and 15 that applies, 0 where none does; `next` is the row that the begin takes.
+fn refusal(f: Floor, s: u8, v: u32, round: u32, next: u8) -> u8
+    requires { ⌜ (f .n ≤ 9) × (f .m ≤ 16) × (next ≡ nextRow f) ⌝ }
     ensures { λ r. ⌜ r ≡ frontRefusal f s v round ⌝ }
 {
     if f.m <= s {
@@ -123,7 +100,7 @@ fn refusal(f: Floor, s: u8, v: u32, round: u32) -> u8
     if 65535 < round {
         return 11;
     }
-    if 64 <= f.used {
+    if 64 <= next {
         return 12;
     }
     if few {
@@ -179,14 +156,14 @@ fn put_phase(out: &mut [u8], at: usize, boxes: [StorageBox; 9], n: u8, p: Phase,
 
 // The steps of the plan, up to the first that is turned back or that ends the attempt. Two phases with at most 5 boxes each are 20
 // records of 8 bytes behind the begin.
-fn drive(f: Floor, s: u8, round: u16, v: u32) -> Solo
-    requires { ⌜ (Sound f) × (round ≡ roundOf f s) ⌝ }
+fn drive(f: Floor, s: u8, round: u16, v: u32, next: u8) -> Solo
+    requires { ⌜ (Sound f) × (round ≡ roundOf f s) × (next ≡ nextRow f) ⌝ }
     ensures { λ r. ⌜ r ≡ ofRun (runOf End f (beginOf f s v) (exchangesOf f)) ⌝ }
 {
     let boxes = f.boxes;
     let mut out: [u8; 160] = [0; 160];
-    let reads = put_phase(&mut out, 0, boxes, f.n, Phase::Read, f.used);
-    let end = put_phase(&mut out, reads, boxes, f.n, Phase::Write, f.used);
+    let reads = put_phase(&mut out, 0, boxes, f.n, Phase::Read, next);
+    let end = put_phase(&mut out, reads, boxes, f.n, Phase::Write, next);
     let first = commands::encode(Command::Begin(s, round, v));
     let ran = floor::drive(f, first, &out[..end]);
     let floor = ran.floor;
@@ -207,10 +184,11 @@ pub fn solo_finish(f: Floor, s: u8, v: u32) -> Solo
     if !floor::sound(f) {
         return turned_away(f, 6);
     }
-    let round = round_above(highest(f), s);
-    let e = refusal(f, s, v, round);
+    let round = round_above(f.highest, s);
+    let next = floor::next_row(f);
+    let e = refusal(f, s, v, round, next);
     if e != 0 {
         return turned_away(f, e);
     }
-    drive(f, s, round as u16, v)
+    drive(f, s, round as u16, v, next)
 }

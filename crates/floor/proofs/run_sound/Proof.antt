@@ -4,7 +4,7 @@ use native.Mathlib.Omega.{arith}
 use native.Mathlib.Nat.{sub-zero}
 use borrow.Author.Needs.{needs}
 use borrow.Author.Tests.{le-leb}
-use mathlib.Core.Path.{_≡_, sym, ap, subst, _∙_}
+use mathlib.Core.Path.{_≡_, refl, sym, ap, subst, _∙_}
 use mathlib.Core.Bool.{true, false}
 use lib.ListN.{length}
 use Rattle.base.specs.Records.{recordsFrom}
@@ -15,6 +15,7 @@ use Rattle.parts.specs.Parts.{changeIn}
 use Rattle.parts.specs.declared.Parts.{Parts}
 use Rattle.floor.specs.Runs.{runFrom}
 use Rattle.floor.specs.Claims.{Sound}
+use Rattle.floor.proofs.SearchLaws.{Looking, looking-starts, looking-on, looking-ends, looking-full}
 use Rattle.floor.proofs.RunLaws.{Turn, turn-refused, turn-sound, turn-over, turn-left, turn-on}
 use Rattle.floor.proofs.run_sound.Statement.{statement}
 use Rattle.floor.proofs.run_sound.Tie as tie
@@ -26,26 +27,35 @@ Inv-loop records until f₀ count c₀ k₀ f c k =
 abbrev μ-loop : tie.MeasureT-loop
 μ-loop records until f₀ count c₀ k₀ f c k = count - k
 
+-- while the row of a begin is looked for
+abbrev Inv-loop2 : tie.InvT-loop2
+Inv-loop2 records until f count c k found₀ a₀ found a = (a ≤ 64) × Looking f c a found
+
+abbrev μ-loop2 : tie.MeasureT-loop2
+μ-loop2 records until f count c k found₀ a₀ found a = 64 - a
+
 -- Places of a turn: its head, where the step's change is known, and behind its stores.
 abbrev Head : Type 0
-Head = tie.At-loop Inv-loop μ-loop
+Head = tie.At-loop Inv-loop2 μ-loop2 Inv-loop μ-loop
 
 abbrev Changing : Type 0
-Changing = tie.After-change Inv-loop μ-loop
+Changing = tie.After-change Inv-loop2 μ-loop2 Inv-loop μ-loop
 
 abbrev Storing : Type 0
-Storing = tie.After-station2 Inv-loop μ-loop
+Storing = tie.After-station2 Inv-loop2 μ-loop2 Inv-loop μ-loop
 
 abbrev head : Changing → Head
-head x = x .before .before .before .before .before .before .before .before
+head x = x .before .before .before .before .before .before .before .before .before .before .before .before
 
 abbrev changing : Storing → Changing
 changing x = x .before .before .before .before .before .before
 
-turn : (x : Changing) → Turn (head x .loop .f) (head x .loop .c) (x .before .before .before .before .before .before .before .row-place .result)
+turn : (x : Changing) → Turn (head x .loop .f) (head x .loop .c) (x .before .before .before .before .before .before .before .before .before .loop2 .found .row)
+    (x .before .before .before .before .before .before .before .row-place .result)
     (x .before .before .before .before .before .before .box-place .result) (x .before .before .before .before .station-place .result) (x .change .result)
 turn x = record {
   sound = head x .loop .inv .1;
+  taken = let y = x .before .before .before .before .before .before .before .before .before in looking-ends _ _ _ _ (y .loop2 .inv .0) (omega (arith, x .before .before .before .before .before .before .before .before .loop2-test .left)) (y .loop2 .inv .1);
   row = x .before .before .before .before .before .before .before .row-place .ensures .0;
   storage = x .before .before .before .before .before .before .box-place .ensures .0;
   station = x .before .before .before .before .station-place .ensures .0;
@@ -55,23 +65,44 @@ turn x = record {
 }
 
 -- the step was refused, or accepted
-turned-back : (c : tie.Then1 Inv-loop μ-loop) → isRefused (c .before .before .change .result .outcome) ≡ true
+turned-back : (c : tie.Then1 Inv-loop2 μ-loop2 Inv-loop μ-loop) → isRefused (c .before .before .change .result .outcome) ≡ true
 turned-back c = sym (c .before .refused .ensures) ∙ c .if1 .taken
 
 accepted : (x : Storing) → isRefused (changing x .change .result .outcome) ≡ false
 accepted x = sym (x .before .before .before .before .before .refused .ensures) ∙ x .before .before .before .before .if1 .left
 
 -- it was not the last: a record is left
-left : (c : tie.Else2 Inv-loop μ-loop) → head (changing (c .before .before)) .loop .k < length (head (changing (c .before .before)) .before .before .args .records .now) / 8
+left : (c : tie.Else2 Inv-loop2 μ-loop2 Inv-loop μ-loop) → head (changing (c .before .before)) .loop .k < length (head (changing (c .before .before)) .before .before .args .records .now) / 8
 left c = let x = c .before .before in turn-left (turn (changing x)) (accepted x) _ _ _ (sym (c .before .over .ensures) ∙ c .if2 .left)
 
 pub run-sound-spec : {M : Type 1} → statement M
 run-sound-spec =
     tie.close
     (tie.spec
+    Inv-loop2
+    μ-loop2
     Inv-loop
     μ-loop
     (λ c. (search needs, c .before .pre, rw sub-zero))
+    (λ c κs. search needs)
+    (λ c κs. search needs)
+    (λ c. looking-starts _ _ _ _ (c .before .start .ensures) (c .first .ensures))
+    (λ c. search needs)
+    (λ c. search needs)
+    (λ c. search needs)
+    (λ c. search needs)
+    (λ c. search needs)
+    (λ c.
+    let h = c .before .before .loop2-test .taken in
+    let y = c .before .before .before .loop2 in
+    let z = c .before .before .before .before .before .before .loop .inv .1 in
+    omega (arith, z .stations (y .a) (omega (arith, looking-full _ _ _ _ h (y .inv .1))), z .station-most))
+    (λ c κs. c .before .before .before .before .before .before .before .before .loop .inv .1 .box-most)
+    (λ c. omega (arith, c .before .before .before .before .before .loop2-test .taken))
+    (λ c. omega (arith, c .before .before .before .before .before .loop2-test .taken))
+    (λ c.
+    let h = c .before .before .before .before .before .loop2-test .taken in
+    (omega (arith, h), looking-on _ _ _ _ _ _ _ h (c .before .before .before .before .before .before .loop2 .inv .1) refl refl (c .better .ensures)))
     (λ c κs. search needs)
     (λ c. search needs)
     (λ c κs. search needs)

@@ -31,7 +31,7 @@ written : (x : tie.After-put-phase2) → take (x .put-phase2 .result) (x .put-ph
 written x =
     let r = reads x .put-phase in
     let w = x .put-phase2 in
-    plan-written (start (reads x) .args .f) (r .last .0) (w .last .0) (r .result) (w .result) (r .ensures .1) (w .ensures .1)
+    plan-written (start (reads x) .args .f) (r .last .0) (w .last .0) (r .result) (w .result) _ (start (reads x) .pre .2) (r .ensures .1) (w .ensures .1)
 
 -- and run behind the begin
 ran : (x : tie.After-drive) → x .drive .result ≡ runOf End (entry x .args .f) (beginOf (entry x .args .f) (entry x .args .s) (entry x .args .v)) (exchangesOf (entry x .args .f))

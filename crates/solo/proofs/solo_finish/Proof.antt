@@ -2,6 +2,7 @@ use borrow.Author.Needs.{needs}
 use native.Mathlib.Omega.{arith}
 use Prim.Native.Nat.{ℕ}
 use mathlib.Core.Path.{_≡_, sym, ap, _∙_}
+use Rattle.base.proofs.Choices.{chosen}
 use Rattle.base.proofs.Tests.{tests}
 use Rattle.commands.specs.Outcomes.{numberOf, valueOf}
 use Rattle.floor.specs.declared.Floor.{Floor}
@@ -26,23 +27,25 @@ solo-finish-spec =
     (λ c κs. search needs)
     (λ c κs. search needs)
     (λ c. let e = ends-unsound _ _ _ _ (search tests) (c .turned-away .ensures) in (e, (number _ _ _ _ e, value _ _ _ _ e)))
-    (λ c κs. sound-means (c .before .before .args .f) (search tests) .rows-most)
     (λ c κs. search needs)
-    (λ c κs. let z = sound-means (c .before .before .before .before .args .f) (search tests) in (z .box-most, z .station-most))
+    (λ c κs. search needs)
+    (λ c κs.
+    let z = sound-means (c .before .before .before .before .args .f) (search tests) in
+    (z .box-most, z .station-most, chosen 64 (search tests) (c .next-row .ensures)))
     (λ c κs. search needs)
     (λ c.
     let p = c .before .before in
     let e =
-    ends-refused _ _ _ _ _ _ _ (search tests) (p .before .before .highest .ensures) (p .before .round-above .ensures) (p .refusal .ensures)
+    ends-refused _ _ _ _ _ _ (search tests) (p .before .before .round-above .ensures) (p .refusal .ensures)
     (c .before .if2 .taken) (c .turned-away2 .ensures) in
     (e, (number _ _ _ _ e, value _ _ _ _ e)))
     (λ c. let d = front-means _ _ _ _ (sym (c .before .refusal .ensures) ∙ c .if2 .left) in omega arith)
     (λ c κs.
     let p = c .before .before in
-    (sound-means (p .before .before .before .before .args .f) (search tests), p .round-above .ensures ∙ rw (p .before .highest .ensures)))
+    (sound-means (p .before .before .before .before .args .f) (search tests), p .before .round-above .ensures, chosen 64 (search tests) (p .next-row .ensures)))
     (λ c.
     let p = c .before .before in
     let e =
-    ends-driven _ _ _ _ _ _ _ (search tests) (p .before .before .highest .ensures) (p .before .round-above .ensures) (p .refusal .ensures)
+    ends-driven _ _ _ _ _ _ (search tests) (p .before .before .round-above .ensures) (p .refusal .ensures)
     (c .before .if2 .left) (c .drive .ensures) in
     (e, (number _ _ _ _ e, value _ _ _ _ e))))

@@ -1,4 +1,5 @@
 use borrow.Author.Needs.{needs}
+use native.Mathlib.Omega.{arith}
 use Rattle.parts.specs.Parts.{begun}
 use Rattle.parts.proofs.begin.begin.Statement.{statement}
 use Rattle.parts.proofs.begin.begin.Tie as tie
@@ -9,5 +10,8 @@ begin-spec =
     tie.close
     (tie.spec
     (λ c κs. search needs)
-    (λ c. search needs)
-    (λ c. rw (c .new-row .ensures)))
+    (λ c κs. search needs)
+    (λ c. omega arith)
+    (λ c. omega arith)
+    (λ c κs. search needs)
+    (λ c. rw (c .larger .ensures, c .before .used-after .ensures, c .before .before .new-row .ensures)))

@@ -1,5 +1,5 @@
 use borrow.Author.Needs.{needs}
-use Rattle.parts.proofs.EffectNeeds.{begin-needs, deliver-needs}
+use Rattle.parts.proofs.EffectNeeds.{deliver-needs}
 use Rattle.parts.proofs.kinds.effect.Statement.{statement}
 use Rattle.parts.proofs.kinds.effect.Tie as tie
 
@@ -8,7 +8,7 @@ effect-spec =
     tie.close
     (tie.spec
     (λ c. search needs)
-    (λ c κs. begin-needs _ _ (c .before .before .before .pre .1) _ _ _ (c .before .c .given .1))
+    (λ c κs. search needs)
     (λ c. search needs)
     (λ c κs. search needs)
     (λ c. search needs)

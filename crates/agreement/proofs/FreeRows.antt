@@ -1,0 +1,436 @@
+-- Where the requests of an attempt stand and whether it is over, read off the list: a row is free exactly where the list says so.
+use Prim.Native.Nat.{ℕ, zero, suc, _<_}
+use native.Mathlib.Omega.{arith}
+use mathlib.Core.Path.{_≡_, refl, sym, ap, subst, _∙_}
+use mathlib.Core.Logic.{_⊎_, inl, inr}
+use mathlib.Core.Bool.{Bool, true, false}
+use mathlib.Core.List.{List}
+use lib.ListN.{length}
+use lib.Seq.{getD-set-same}
+use borrow.Author.Tests.{eqb-true, eq-eqb}
+use Rattle.base.proofs.Cases.{clash, not-true-false, up-to}
+use Rattle.base.proofs.Choices.{on-true, by-test}
+use Rattle.base.proofs.MaskLaws.{bit-zero}
+use Rattle.base.proofs.Stores.{getD-same}
+use Rattle.requests.specs.Requests.{Standing, notIssued, waiting, onTheWay, received, slot0, noneIssued, standing, notReceived, standingOf, isWaiting, issuedTo, servedAt, heardFrom}
+use Rattle.requests.specs.declared.Phase.{Phase}
+use Rattle.requests.specs.declared.Phase.the-variants.{Read, Write}
+use Rattle.requests.specs.declared.Requests.{Requests}
+use Rattle.requests.specs.declared.Slot.{Slot}
+use Rattle.requests.specs.declared.Stage.{Stage}
+use Rattle.requests.specs.declared.Stage.the-variants.{Answered}
+use Rattle.requests.proofs.Claims.{request-claims}
+use Rattle.register.specs.declared.Register.{Register}
+use Rattle.commands.specs.Outcomes.{isRefused, isBegun}
+use Rattle.commands.specs.declared.Command.the-variants.{Begin, Deliver}
+use Rattle.commands.specs.declared.Outcome.{Outcome}
+use Rattle.commands.specs.declared.Outcome.the-variants as said
+use Rattle.attempts.specs.Stations.{isActive, isReading, isIn}
+use Rattle.attempts.specs.Rows.{requestsOf, newRow, usedAfter, rowServed, issued}
+use Rattle.attempts.specs.declared.State.{State}
+use Rattle.attempts.specs.declared.State.the-variants.{Idle, Reading, Writing, Decided, Gone}
+use Rattle.attempts.specs.declared.Station.{Station}
+use Rattle.attempts.specs.declared.Row.{Row}
+use Rattle.attempts.proofs.StationTests.{is-reading, is-writing, is-idle}
+use Rattle.floor.specs.Floors.{boxAt, stationAt, rowAt, ownerAt}
+use Rattle.floor.specs.Free.{isFree, nextRow}
+use Rattle.floor.specs.Step.{stepOf}
+use Rattle.floor.specs.Runs.{floorAt, saidAt}
+use Rattle.floor.specs.Claims.{Sound, Free, StationMove, station-kept, station-begins, station-issues, station-decides, station-aborts, station-leaves, RowMove, row-kept, row-begins, row-served, row-heard, row-issues, StandingMove, stands-kept, stands-new, stands-served, stands-received, stands-issued}
+use Rattle.floor.specs.declared.Floor.{Floor}
+use Rattle.floor.proofs.FreeLaws.{free-means, free-holds, next-in, next-unused, next-some}
+use Rattle.floor.proofs.Moves.{apply-station, apply-row}
+use Rattle.floor.proofs.RowLaws.{apply-used, used-stays}
+use Rattle.floor.proofs.StandingLaws.{is-waiting, apply-standing}
+use Rattle.agreement.specs.Words.{Before, commandAt, Attempt, Named, OverAt, decided, aborted, gone, ServesAt, DeliversAt, IssuesAt, Answering, FreedAt, FreeAt, RowLeft, unused, free}
+use Rattle.agreement.specs.GivenBack.{OwnAnswer}
+use Rattle.agreement.proofs.History.{StationShows}
+use Rattle.agreement.proofs.Reach.{New}
+use Rattle.agreement.proofs.Positions.{later, now, size-at, reached-at, means-at, row-at}
+use Rattle.agreement.proofs.Deliveries.{owner-reads}
+use Rattle.agreement.proofs.Safety.{one-attempt}
+use Rattle.agreement.proofs.Standing.{sound-at, used-at, stopped-before, stopped-since, not-aborted}
+use Rattle.agreement.proofs.Consequences.{isOver, over-since, gone-since}
+
+-- an answer was given; a request was issued
+abbrev isServed : Standing → Bool
+isServed notIssued = false
+isServed waiting = false
+isServed onTheWay = true
+isServed received = true
+
+abbrev wasIssued : Standing → Bool
+wasIssued notIssued = false
+wasIssued waiting = true
+wasIssued onTheWay = true
+wasIssued received = true
+
+served-rests : (s : Standing) → isServed s ≡ true → isWaiting s ≡ false
+served-rests notIssued e = clash e refl
+served-rests waiting e = clash e refl
+served-rests onTheWay e = refl
+served-rests received e = refl
+
+over-inactive : (p : State) (a : ℕ) → isOver p ≡ true → isActive p a ≡ false
+over-inactive Idle a e = clash e refl
+over-inactive (Reading x) a e = clash e refl
+over-inactive (Writing x) a e = clash e refl
+over-inactive (Decided x) a e = refl
+over-inactive Gone a e = refl
+
+none-stands : (b : ℕ) → standingOf noneIssued b ≡ notIssued
+none-stands b = request-claims .unheard _ 0 b (bit-zero b) ∙ ap (λ (x : Slot). notReceived (x .stage)) (getD-same 9 b slot0)
+
+served-stands : (q : Requests) (b : ℕ) (ok : Bool) → b < length (q .slots) → isServed (standingOf (servedAt q b ok) b) ≡ true
+unfolding standing
+served-stands q b ok h =
+    let e = ap (λ (x : Slot). x .stage) (getD-set-same (q .slots) b (record { stage = Answered; ok = ok }) slot0 h) in
+    by-test (λ (s : Standing). isServed s ≡ true) _ _ _ (λ _. refl) (λ _. ap (λ (g : Stage). isServed (notReceived g)) e)
+
+module _ (f : Floor) (l : List (List ℕ)) (new : New f) (z : Sound f) where
+  abbrev at-floor : ℕ → Floor
+  at-floor i = floorAt f l i
+
+  -- the attempt x was begun by the step before, or its number meant it before that step, which began no other in its row
+  named-step : (x : Attempt f l) (i : ℕ) → Named f l x (suc i) → (x .at ≡ i) ⊎ (Named f l x i × (¬ (saidAt f l i ≡ said.Begun (x .number))))
+  named-step x i n = elim (up-to (n .earlier)) [
+    | inl q ↦ inl q
+    | inr q ↦ inr (record { earlier = q; last = λ k h u. n .last k h (omega arith) }, n .last i q (omega arith))
+  ]
+
+  -- the begin of x
+  pub record Begins (x : Attempt f l) : Type 0 where
+    pub taken : x .number ≡ nextRow (at-floor (x .at))
+    pub place : nextRow (at-floor (x .at)) < 64
+    pub row : rowAt (at-floor (suc (x .at))) (x .number) ≡ newRow (f .n) (x .station) (x .round) (x .offer)
+    pub state : stationAt (at-floor (suc (x .at))) (x .station) .state ≡ Reading (x .number)
+    pub last : stationAt (at-floor (suc (x .at))) (x .station) .last ≡ x .round
+    pub later : stationAt (at-floor (x .at)) (x .station) .last < x .round
+    pub station : x .station < at-floor (x .at) .m
+
+  pub begins : (x : Attempt f l) → Begins x
+  begins x =
+      let i = x .at in
+      let b = means-at f l new i (said.Begun (x .number)) (x .begun) in
+      let c : Begin (b .station) (b .round) (b .offer) ≡ Begin (x .station) (x .round) (x .offer) = sym (b .command) ∙ x .asked in
+      let s : b .station ≡ x .station = cc in
+      let r : b .round ≡ x .round = cc in
+      let o : b .offer ≡ x .offer = cc in
+      record {
+        taken = b .next;
+        place = b .may .row;
+        row = ap (rowAt (at-floor (suc i))) (b .next) ∙ b .row ∙ rw (size-at f l i, s, r, o) refl;
+        state = ap (λ (j : ℕ). stationAt (at-floor (suc i)) j .state) (sym s) ∙ ap (λ (t : Station). t .state) (b .beginning) ∙ ap Reading (sym (b .next));
+        last = ap (λ (j : ℕ). stationAt (at-floor (suc i)) j .last) (sym s) ∙ ap (λ (t : Station). t .last) (b .beginning) ∙ r;
+        later = subst (λ (j : ℕ). stationAt (at-floor i) j .last < x .round) s (omega (arith, b .may .later, r));
+        station = omega (arith, b .may .station, s);
+      }
+
+  -- its row is in use, and its own
+  pub in-use : (x : Attempt f l) (i : ℕ) → Named f l x i → x .number < at-floor i .used
+  unfolding floorAt stepOf
+  in-use x zero n = absurd (omega (arith, n .earlier))
+  in-use x (suc i) n = elim (named-step x i n) [
+    | inl q ↦ (
+        let b = begins x in
+        let e = ap isBegun (ap (saidAt f l) (sym q) ∙ x .begun) in
+        let u = apply-used (at-floor i) (commandAt l i) ∙ sym (on-true _ e refl) in
+        let p : x .number < usedAfter (at-floor i .used) = subst (λ (k : ℕ). x .number < usedAfter (at-floor k .used)) q (rw (b .taken) (next-in (at-floor (x .at)) (b .place))) in
+        omega (arith, u))
+    | inr o ↦ used-stays (at-floor i) (commandAt l i) (x .number) (in-use x i (o .0))
+  ]
+
+  own-station : (x : Attempt f l) (i : ℕ) → Named f l x i → rowAt (at-floor i) (x .number) .station ≡ x .station
+  own-station x i n =
+      let o = row-at f l new i (x .number) (in-use x i n) in
+      sym (o .station) ∙ one-attempt f l (o .attempt) x (o .named) n (o .number)
+
+  -- Whether the attempt is over. Its station is in it, or it decided, aborted or its station went.
+  over-later : {x : Attempt f l} {i : ℕ} → OverAt f l x i → OverAt f l x (suc i)
+  over-later (decided b) = decided (later b)
+  over-later (aborted b) = aborted (later b)
+  over-later (gone b) = gone (later b)
+
+  module _ (x : Attempt f l) (i : ℕ) (n : Named f l x i) where
+    abbrev state : State
+    state = stationAt (at-floor i) (x .station) .state
+
+    same-number : (p : State) (a : ℕ) → isActive p (x .number) ≡ true → (p ≡ Reading a) ⊎ (p ≡ Writing a) → a ≡ x .number
+    same-number p a e (inl q) = eqb-true a (x .number) (ap (λ (s : State). isActive s (x .number)) (sym q) ∙ e)
+    same-number p a e (inr q) = eqb-true a (x .number) (ap (λ (s : State). isActive s (x .number)) (sym q) ∙ e)
+
+    in-phase : (p : Phase) (s : State) (a : ℕ) → isIn p s a ≡ true → (s ≡ Reading a) ⊎ (s ≡ Writing a)
+    in-phase Read s a e = inl (is-reading s a e)
+    in-phase Write s a e = inr (is-writing s a e)
+
+    active-moves : {o : Outcome} {t : Station} → StationMove (at-floor i) (commandAt l i) (x .station) o t → saidAt f l i ≡ o → isActive state (x .number) ≡ true
+        → (isActive (t .state) (x .number) ≡ true) ⊎ OverAt f l x (suc i)
+    active-moves station-kept e a = inl a
+    active-moves (station-begins c g b h) e a = clash a (ap (λ (s : State). isActive s (x .number)) (is-idle state g b))
+    active-moves (station-issues {a = k} c u w r) e a = inl (ap (λ (s : State). isActive s (x .number)) (sym (is-reading state k r)) ∙ a)
+    active-moves (station-decides {a = k} {b = b} {v = v} c u w r q) e a =
+        let m = same-number state k a (inr (is-writing state k r)) in
+        inr (decided (now i (record { named = n; box = b; revision = v; asked = c ∙ ap (λ (j : ℕ). Deliver Write j b) m; accepted = e })))
+    active-moves (station-aborts {p = p} {a = k} {b = b} c u w r) e a =
+        let m = same-number state k a (in-phase p state k r) in
+        inr (aborted (now i (record { named = n; phase = p; box = b; asked = c ∙ ap (λ (j : ℕ). Deliver p j b) m; accepted = e ∙ ap said.Aborted m })))
+    active-moves (station-leaves c h) e a = inr (gone (now i e))
+
+  active-or-over : (x : Attempt f l) (i : ℕ) → Named f l x i → (isActive (stationAt (at-floor i) (x .station) .state) (x .number) ≡ true) ⊎ OverAt f l x i
+  unfolding floorAt stepOf
+  active-or-over x zero n = absurd (omega (arith, n .earlier))
+  active-or-over x (suc i) n = elim (named-step x i n) [
+    | inl q ↦ inl (subst (λ (k : ℕ). isActive (stationAt (at-floor (suc k)) (x .station) .state) (x .number) ≡ true) q
+        (ap (λ (s : State). isActive s (x .number)) (begins x .state) ∙ eq-eqb (x .number) (x .number) refl))
+    | inr o ↦ elim (active-or-over x i (o .0)) [
+      | inl a ↦ active-moves x i (o .0) (apply-station (at-floor i) (commandAt l i) (x .station)) refl a
+      | inr v ↦ inr (over-later v)
+    ]
+  ]
+
+  over-means : (x : Attempt f l) (i : ℕ) → Named f l x i → OverAt f l x i → isActive (stationAt (at-floor i) (x .station) .state) (x .number) ≡ false
+  over-means x i n (decided b) =
+      let d = b .holds in
+      over-inactive (stationAt (at-floor i) (x .station) .state) (x .number) (over-since f l new (x .station) (d .revision) (b .at) i
+      (record { attempt = x; named = d .named; station = refl; box = d .box; asked = d .asked; accepted = d .accepted }) (b .earlier))
+  over-means x i n (aborted b) = not-true-false _ (λ e. not-aborted f l new (x .station) i (b .at) x e n (b .earlier) (b .holds))
+  over-means x i n (gone b) = over-inactive (stationAt (at-floor i) (x .station) .state) (x .number) (gone-since f l new (x .station) (b .at) i (b .holds) (b .earlier))
+
+  -- Where its requests stand.
+  module _ (x : Attempt f l) (p : Phase) (b : ℕ) where
+    abbrev Issued : Phase → ℕ → Type 0
+    Issued Read i = Unit {0}
+    Issued Write i = Before (IssuesAt f l x) i
+
+    issued-later : (q : Phase) (i : ℕ) → Issued q i → Issued q (suc i)
+    issued-later Read i h = tt
+    issued-later Write i h = later h
+
+    abbrev standsAt : ℕ → Standing
+    standsAt i = standingOf (requestsOf p (rowAt (at-floor i) (x .number))) b
+
+    data Stands (i : ℕ) : Standing → Type 0 where
+      none : p ≡ Write → Stands i notIssued
+      waits : Issued p i → Stands i waiting
+      answered : Issued p i → Before (ServesAt f l x p b) i → Stands i onTheWay
+      heard : Issued p i → Before (ServesAt f l x p b) i → Before (DeliversAt f l x p b) i → Stands i received
+
+    stands-later : {i : ℕ} {s : Standing} → Stands i s → Stands (suc i) s
+    stands-later (none e) = none e
+    stands-later {i} (waits h) = waits (issued-later p i h)
+    stands-later {i} (answered h s) = answered (issued-later p i h) (later s)
+    stands-later {i} (heard h s d) = heard (issued-later p i h) (later s) (later d)
+
+    -- a step leads from where it stood to where it stands then
+    module _ (i : ℕ) (n : Named f l x i) (other : ¬ (saidAt f l i ≡ said.Begun (x .number))) where
+      stands-moves : {o : Outcome} {s t : Standing} → StandingMove (at-floor i) (commandAt l i) (x .number) p b o s t → saidAt f l i ≡ o → Stands i s → Stands (suc i) t
+      stands-moves stands-kept e h = stands-later h
+      stands-moves (stands-new q) e h = absurd (other (e ∙ ap said.Begun q))
+      stands-moves (stands-served c) e (waits h) = answered (issued-later p i h) (now i (record { named = n; asked = c; accepted = e }))
+      stands-moves (stands-received c k) e (answered h s) = heard (issued-later p i h) (later s) (now i (record { named = n; asked = c; accepted = ap isRefused e ∙ k }))
+      stands-moves (stands-issued {j = j} {v = v} q c r) e h =
+          waits (subst (λ (r : Phase). Issued r (suc i)) (sym q) (now i (record { named = n; box = j; revision = v; asked = c; accepted = e })))
+
+  first-stands : (x : Attempt f l) (p : Phase) (b : ℕ) → b < f .n → Stands x p b (suc (x .at)) (standsAt x p b (suc (x .at)))
+  unfolding newRow
+  first-stands x Read b h =
+      subst (λ (w : Row). Stands x Read b (suc (x .at)) (standingOf (w .read) b)) (sym (begins x .row))
+      (subst (Stands x Read b (suc (x .at))) (sym (is-waiting _ (request-claims .waits (f .n) b (z .box-most) h))) (waits tt))
+  first-stands x Write b h =
+      subst (λ (w : Row). Stands x Write b (suc (x .at)) (standingOf (w .write) b)) (sym (begins x .row))
+      (subst (Stands x Write b (suc (x .at))) (sym (none-stands b)) (none refl))
+
+  standing-moves : (x : Attempt f l) (p : Phase) (b i : ℕ) → b < f .n → Named f l x i
+      → StandingMove (at-floor i) (commandAt l i) (x .number) p b (saidAt f l i) (standsAt x p b i) (standsAt x p b (suc i))
+  unfolding floorAt stepOf
+  standing-moves x p b i h n =
+      apply-standing (at-floor i) (sound-at f l new z i) (reached-at f l new i .lengths) (x .number)
+      (omega (arith, in-use x i n, sound-at f l new z i .rows-most)) p b (omega (arith, size-at f l i)) (commandAt l i)
+
+  stands : (x : Attempt f l) (p : Phase) (b : ℕ) → b < f .n → (i : ℕ) → Named f l x i → Stands x p b i (standsAt x p b i)
+  stands x p b h zero n = absurd (omega (arith, n .earlier))
+  stands x p b h (suc i) n = elim (named-step x i n) [
+    | inl q ↦ subst (λ (k : ℕ). Stands x p b (suc k) (standsAt x p b (suc k))) q (first-stands x p b h)
+    | inr o ↦ stands-moves x p b i (o .0) (o .1) (standing-moves x p b i h (o .0)) refl (stands x p b h i (o .0))
+  ]
+
+  -- an attempt whose write was issued has a revision to write
+  written-moves : (x : Attempt f l) (i : ℕ) → Named f l x i → ¬ (saidAt f l i ≡ said.Begun (x .number)) → {o : Outcome} {w : Row}
+      → RowMove (at-floor i) (commandAt l i) (x .number) o w → saidAt f l i ≡ o → 0 < rowAt (at-floor i) (x .number) .written → 0 < w .written
+  written-moves x i n other row-kept e h = h
+  written-moves x i n other (row-begins c s q) e h = absurd (other (e ∙ ap said.Begun (sym q)))
+  written-moves x i n other (row-served c d) e h = h
+  written-moves x i n other (row-heard c d k) e h = h
+  written-moves x i n other (row-issues c d r q t u) e h =
+      absurd (omega (arith, owner-reads (reached-at f l new i .shows) (x .number) (in-use x i n) r))
+
+  issued-now : (x : Attempt f l) (i : ℕ) → IssuesAt f l x i → 0 < rowAt (at-floor (suc i)) (x .number) .written
+  issued-now x i d =
+      let m = means-at f l new i (said.WriteIssued (d .revision)) (d .accepted) in
+      let a : m .attempt ≡ x .number = cc (m .command, d .asked) in
+      let j = rowAt (at-floor i) (m .attempt) .station in
+      let s = reached-at f l new (suc i) .shows .stations j in
+      let w = subst (StationShows (at-floor (suc i) .used) (at-floor (suc i) .rows) j (stationAt (at-floor (suc i)) j .decided)) (ap (λ (t : Station). t .state) (m .owner)) s in
+      subst (λ (k : ℕ). 0 < rowAt (at-floor (suc i)) k .written) a (w .2)
+
+  issued-written : (x : Attempt f l) (i : ℕ) → Named f l x i → Before (IssuesAt f l x) i → 0 < rowAt (at-floor i) (x .number) .written
+  unfolding floorAt stepOf
+  issued-written x zero n d = absurd (omega (arith, n .earlier))
+  issued-written x (suc i) n d = elim (up-to (d .earlier)) [
+    | inl q ↦ issued-now x i (subst (IssuesAt f l x) q (d .holds))
+    | inr q ↦ elim (named-step x i n) [
+      | inl r ↦ absurd (omega (arith, d .holds .named .earlier))
+      | inr o ↦ written-moves x i (o .0) (o .1) (apply-row (at-floor i) (commandAt l i) (x .number)) refl
+          (issued-written x i (o .0) (record { at = d .at; earlier = q; holds = d .holds }))
+    ]
+  ]
+
+  -- a request that was served is answered from then on
+  module _ (x : Attempt f l) (p : Phase) (b i : ℕ) (n : Named f l x i) (other : ¬ (saidAt f l i ≡ said.Begun (x .number))) where
+    not-again : {s : Standing} → Stands x p b i s → isServed s ≡ true → p ≡ Write → isReading (ownerAt (at-floor i) (x .number) .state) (x .number) ≡ true → ⊥
+    not-again (none e) k q r = clash k refl
+    not-again (waits h) k q r = clash k refl
+    not-again (answered h s) k q r =
+        omega (arith, issued-written x i n (subst (λ (y : Phase). Issued x p b y i) q h), owner-reads (reached-at f l new i .shows) (x .number) (in-use x i n) r)
+    not-again (heard h s d) k q r =
+        omega (arith, issued-written x i n (subst (λ (y : Phase). Issued x p b y i) q h), owner-reads (reached-at f l new i .shows) (x .number) (in-use x i n) r)
+
+    served-still : {o : Outcome} {s t : Standing} → StandingMove (at-floor i) (commandAt l i) (x .number) p b o s t → saidAt f l i ≡ o → Stands x p b i s
+        → isServed s ≡ true → isServed t ≡ true
+    served-still stands-kept e h k = k
+    served-still (stands-new q) e h k = absurd (other (e ∙ ap said.Begun q))
+    served-still (stands-served c) e h k = refl
+    served-still (stands-received c j) e h k = refl
+    served-still (stands-issued q c r) e h k = absurd (not-again h k q r)
+
+    issued-still : {o : Outcome} {s t : Standing} → StandingMove (at-floor i) (commandAt l i) (x .number) p b o s t → saidAt f l i ≡ o → wasIssued s ≡ true → wasIssued t ≡ true
+    issued-still stands-kept e k = k
+    issued-still (stands-new q) e k = absurd (other (e ∙ ap said.Begun q))
+    issued-still (stands-served c) e k = refl
+    issued-still (stands-received c j) e k = refl
+    issued-still (stands-issued q c r) e k = refl
+
+  row-served-stands : (p : Phase) (w : Row) (g : Register) (b : ℕ) → b < length (requestsOf p w .slots) → isServed (standingOf (requestsOf p (rowServed p w g b)) b) ≡ true
+  row-served-stands Read w g b h = served-stands (w .read) b _ h
+  row-served-stands Write w g b h = served-stands (w .write) b _ h
+
+  served-now : (x : Attempt f l) (p : Phase) (b i : ℕ) → b < f .n → Named f l x i → ServesAt f l x p b i → isServed (standsAt x p b (suc i)) ≡ true
+  served-now x p b i h n d =
+      let m = means-at f l new i (said.Served (x .number)) (d .accepted) in
+      let q : m .phase ≡ p = cc (m .command, d .asked) in
+      let c : m .box ≡ b = cc (m .command, d .asked) in
+      let slots = reached-at f l new i .lengths .slots p (x .number) (omega (arith, in-use x i n, sound-at f l new z i .rows-most)) in
+      let r : rowAt (at-floor (suc i)) (x .number) ≡ rowServed p (rowAt (at-floor i) (x .number)) (boxAt (at-floor i) b .register) b =
+      m .row ∙ rw (q, c) refl in
+      rw r (row-served-stands p (rowAt (at-floor i) (x .number)) (boxAt (at-floor i) b .register) b (omega (arith, slots, z .box-most)))
+
+  served-since : (x : Attempt f l) (p : Phase) (b : ℕ) → b < f .n → (i : ℕ) → Named f l x i → Before (ServesAt f l x p b) i → isServed (standsAt x p b i) ≡ true
+  served-since x p b h zero n d = absurd (omega (arith, n .earlier))
+  served-since x p b h (suc i) n d = elim (named-step x i n) [
+    | inl r ↦ absurd (omega (arith, d .holds .named .earlier, d .earlier))
+    | inr o ↦ elim (up-to (d .earlier)) [
+      | inl q ↦ served-now x p b i h (o .0) (subst (ServesAt f l x p b) q (d .holds))
+      | inr q ↦ served-still x p b i (o .0) (o .1) (standing-moves x p b i h (o .0)) refl (stands x p b h i (o .0))
+          (served-since x p b h i (o .0) (record { at = d .at; earlier = q; holds = d .holds }))
+    ]
+  ]
+
+  issue-stands : (x : Attempt f l) (b i : ℕ) → b < f .n → IssuesAt f l x i → wasIssued (standsAt x Write b (suc i)) ≡ true
+  unfolding issued
+  issue-stands x b i h d =
+      let m = means-at f l new i (said.WriteIssued (d .revision)) (d .accepted) in
+      let a : m .attempt ≡ x .number = cc (m .command, d .asked) in
+      let s = is-waiting (standingOf (issuedTo (at-floor i .n)) b) (request-claims .waits (at-floor i .n) b (omega (arith, size-at f l i, z .box-most)) (omega (arith, size-at f l i))) in
+      subst (λ (k : ℕ). wasIssued (standingOf (rowAt (at-floor (suc i)) k .write) b) ≡ true) a
+      (ap (λ (w : Row). wasIssued (standingOf (w .write) b)) (m .row) ∙ ap wasIssued s)
+
+  issued-since : (x : Attempt f l) (b : ℕ) → b < f .n → (i : ℕ) → Named f l x i → Before (IssuesAt f l x) i → wasIssued (standsAt x Write b i) ≡ true
+  issued-since x b h zero n d = absurd (omega (arith, n .earlier))
+  issued-since x b h (suc i) n d = elim (named-step x i n) [
+    | inl r ↦ absurd (omega (arith, d .holds .named .earlier, d .earlier))
+    | inr o ↦ elim (up-to (d .earlier)) [
+      | inl q ↦ issue-stands x b i h (subst (IssuesAt f l x) q (d .holds))
+      | inr q ↦ issued-still x Write b i (o .0) (o .1) (standing-moves x Write b i h (o .0)) refl
+          (issued-since x b h i (o .0) (record { at = d .at; earlier = q; holds = d .holds }))
+    ]
+  ]
+
+  -- what does not wait and was issued was served
+  rests-served : (x : Attempt f l) (p : Phase) (b i : ℕ) {s : Standing} → Stands x p b i s → isWaiting s ≡ false → wasIssued s ≡ true → Before (ServesAt f l x p b) i
+  rests-served x p b i (none e) w k = clash k refl
+  rests-served x p b i (waits h) w k = clash refl w
+  rests-served x p b i (answered h s) w k = s
+  rests-served x p b i (heard h s d) w k = s
+
+  reads-issued : (x : Attempt f l) (b i : ℕ) {s : Standing} → Stands x Read b i s → wasIssued s ≡ true
+  reads-issued x b i (none e) = absurd (read-write e)
+    where
+      read-write : ¬ (Read ≡ Write)
+      read-write e = let q : _≡_ {A = ℕ} 0 1 = cc in omega arith
+  reads-issued x b i (waits h) = refl
+  reads-issued x b i (answered h s) = refl
+  reads-issued x b i (heard h s d) = refl
+
+  writes-issued : (x : Attempt f l) (b i : ℕ) {s : Standing} → Stands x Write b i s → isWaiting s ≡ true → Before (IssuesAt f l x) i
+  writes-issued x b i (none e) w = clash w refl
+  writes-issued x b i (waits h) w = h
+  writes-issued x b i (answered h s) w = clash w refl
+  writes-issued x b i (heard h s d) w = clash w refl
+
+  -- a row that is free on the floor is so in the words of the list
+  pub freed-of : (x : Attempt f l) (i : ℕ) → Named f l x i → isFree (at-floor i) (x .number) ≡ true → FreedAt f l x i
+  freed-of x i n e =
+      let y = free-means (at-floor i) (x .number) e in
+      record {
+        over = elim (active-or-over x i n) [
+          | inl a ↦ clash a (ap (λ (j : ℕ). isActive (stationAt (at-floor i) j .state) (x .number)) (sym (own-station x i n)) ∙ y .over)
+          | inr v ↦ v
+        ];
+        reads = λ b h a. let s = stands x Read b h i n in rests-served x Read b i s (rests y b h a Read) (reads-issued x b i s);
+        writes = λ d b h a. rests-served x Write b i (stands x Write b h i n) (rests y b h a Write) (issued-since x b h i n d);
+      }
+    where
+      rests : Free (at-floor i) (x .number) → (b : ℕ) → b < f .n → Answering f l i b → (p : Phase) → isWaiting (standsAt x p b i) ≡ false
+      rests y b h a = y .served b (omega (arith, size-at f l i)) (not-true-false _ (λ q. a (stopped-before f l new b i q)))
+
+  -- and the other way round
+  pub free-of : (x : Attempt f l) (i : ℕ) → Named f l x i → FreedAt f l x i → isFree (at-floor i) (x .number) ≡ true
+  free-of x i n y =
+      free-holds (at-floor i) (x .number) (record {
+        over = ap (λ (j : ℕ). isActive (stationAt (at-floor i) j .state) (x .number)) (own-station x i n) ∙ over-means x i n (y .over);
+        served = λ b h s p. let k : b < f .n = omega (arith, size-at f l i) in rests b k (λ q. clash (stopped-since f l new b i q) s) p;
+      })
+    where
+      rests : (b : ℕ) → b < f .n → Answering f l i b → (p : Phase) → isWaiting (standsAt x p b i) ≡ false
+      rests b h a Read = served-rests (standsAt x Read b i) (served-since x Read b h i n (y .reads b h a))
+      rests b h a Write =
+          not-true-false (isWaiting (standsAt x Write b i)) (λ e. clash e (served-rests (standsAt x Write b i) (served-since x Write b h i n (y .writes (writes-issued x b i (stands x Write b h i n) e) b h a))))
+
+  pub free-at : (a i : ℕ) → a < at-floor i .used → isFree (at-floor i) a ≡ true → FreeAt f l a i
+  free-at a i h e =
+      let o = row-at f l new i a h in
+      record { attempt = o .attempt; number = o .number; named = o .named; freed = freed-of (o .attempt) i (o .named) (subst (λ (k : ℕ). isFree (at-floor i) k ≡ true) (sym (o .number)) e) }
+
+  pub free-there : (a i : ℕ) → FreeAt f l a i → (a < at-floor i .used) × (isFree (at-floor i) a ≡ true)
+  free-there a i y =
+      let x = y .attempt in
+      subst (λ (k : ℕ). (k < at-floor i .used) × (isFree (at-floor i) k ≡ true)) (y .number) (in-use x i (y .named), free-of x i (y .named) (y .freed))
+
+  -- a row left in the words of the list is one that a begin takes
+  pub row-left : (i : ℕ) → RowLeft f l i → nextRow (at-floor i) < 64
+  row-left i (unused h) = elim (used-at f l new i) [
+    | inl o ↦ rw (next-unused (at-floor i) (omega (arith, o .1))) (omega (arith, o .1))
+    | inr o ↦ absurd (omega (arith, o .0))
+  ]
+  row-left i (free a y) = let o = free-there a i y in next-some (at-floor i) (sound-at f l new z i .rows-most) a (o .0) (o .1)
+
+  -- an answer that was received was served and delivered for the attempt that the number means
+  received-own : (x : Attempt f l) (p : Phase) (b i : ℕ) {s : Standing} → Stands x p b i s → s ≡ received → OwnAnswer f l x p b i
+  received-own x p b i (none e) q = absurd (let k : _≡_ {A = ℕ} 0 1 = cc in omega arith)
+  received-own x p b i (waits h) q = absurd (let k : _≡_ {A = ℕ} 0 1 = cc in omega arith)
+  received-own x p b i (answered h s) q = absurd (let k : _≡_ {A = ℕ} 0 1 = cc in omega arith)
+  received-own x p b i (heard h s d) q = record { served = s; delivered = d }
+
+  pub own-answer : (x : Attempt f l) (i : ℕ) → Named f l x i → (p : Phase) (b : ℕ) → b < f .n
+      → heardFrom (requestsOf p (rowAt (at-floor i) (x .number))) b ≡ true → OwnAnswer f l x p b i
+  own-answer x i n p b h e = received-own x p b i (stands x p b h i n) (request-claims .heard _ _ b e)

@@ -1,0 +1,107 @@
+-- Rows given back: that nothing is lost by it.
+use Prim.Native.Nat.{ℕ, zero, suc, _≤_, _<_}
+use native.Mathlib.Omega.{arith}
+use native.Mathlib.Nat.{eq-or-lt-of-le}
+use mathlib.Core.Path.{_≡_, sym, ap, subst, _∙_}
+use mathlib.Core.Logic.{inl, inr}
+use mathlib.Core.Bool.{true}
+use mathlib.Core.List.{List}
+use Rattle.base.proofs.Cases.{clash, up-to}
+use Rattle.requests.specs.declared.Phase.{Phase}
+use Rattle.commands.specs.Outcomes.{isBegun}
+use Rattle.commands.specs.declared.Command.the-variants.{Begin, Serve, Deliver}
+use Rattle.commands.specs.declared.Outcome.the-variants as said
+use Rattle.floor.specs.Floors.{stationAt}
+use Rattle.floor.specs.Free.{isFree}
+use Rattle.floor.specs.Step.{stepOf}
+use Rattle.floor.specs.Runs.{floorAt, saidAt}
+use Rattle.floor.specs.Claims.{Sound}
+use Rattle.floor.specs.declared.Floor.{Floor}
+use Rattle.floor.proofs.FreeLaws.{next-free}
+use Rattle.floor.proofs.Keeps.{new-sound}
+use Rattle.floor.proofs.StationLaws.{last-from}
+use Rattle.agreement.specs.Words.{commandAt, Attempt, attemptRank, Named, ServedAt, ServesAt, DeliversAt, FreedAt}
+use Rattle.agreement.specs.Demand.{firstFloor}
+use Rattle.agreement.specs.GivenBack.{Drops, GivenBackTheorem}
+use Rattle.agreement.proofs.Reach.{New, new-floor}
+use Rattle.agreement.proofs.Standing.{sound-at, used-at, highest-at}
+use Rattle.agreement.proofs.FreeRows.{begins, in-use, freed-of, free-at, free-there, own-answer}
+
+module _ (f : Floor) (l : List (List ℕ)) (new : New f) (z : Sound f) where
+  -- a station's last round is not below that of an attempt that it began
+  last-since : (x : Attempt f l) (i : ℕ) → x .at < i → x .round ≤ stationAt (floorAt f l i) (x .station) .last
+  unfolding floorAt stepOf
+  last-since x zero h = absurd (omega arith)
+  last-since x (suc i) h = elim (up-to h) [
+    | inl q ↦ subst (λ (k : ℕ). x .round ≤ stationAt (floorAt f l (suc k)) (x .station) .last) q (omega (arith, begins f l new z x .last))
+    | inr q ↦ elim (last-from (floorAt f l i) (commandAt l i) (x .station)) [
+      | inl e ↦ omega (arith, e, last-since x i q)
+      | inr b ↦ omega (arith, b .above, last-since x i q)
+    ]
+  ]
+
+  station-below : (x : Attempt f l) → x .station < 16
+  station-below x = omega (arith, begins f l new z x .station, sound-at f l new z (x .at) .station-most)
+
+  -- of two attempts of one rank neither is the later
+  not-later : (x y : Attempt f l) → attemptRank f l x ≡ attemptRank f l y → ¬ (x .at < y .at)
+  not-later x y e h =
+      let s : x .station ≡ y .station = omega (arith, e, station-below x, station-below y) in
+      let r : x .round ≡ y .round = omega (arith, e, s) in
+      omega (arith, last-since x (y .at) h, ap (λ (j : ℕ). stationAt (floorAt f l (y .at)) j .last) s, begins f l new z y .later)
+
+  one-rank : (x y : Attempt f l) → attemptRank f l x ≡ attemptRank f l y → x .at ≡ y .at
+  one-rank x y e = let p = not-later x y e in let q = not-later y x (sym e) in omega arith
+
+  same-number : (x y : Attempt f l) → x .at ≡ y .at → x .number ≡ y .number
+  same-number x y e = cc (x .begun, y .begun, ap (saidAt f l) e)
+
+  module _ (y x : Attempt f l) (d : Drops f l y x) where
+    -- its number means it no more
+    not-named : (k : ℕ) → y .at < k → ¬ Named f l x k
+    not-named k h n = n .last (y .at) (d .named .earlier) h (y .begun ∙ ap said.Begun (sym (d .number)))
+
+    not-served : (p : Phase) (b k : ℕ) → y .at ≤ k → ¬ ServesAt f l x p b k
+    not-served p b k h s = elim (eq-or-lt-of-le h) [
+      | inl q ↦ clash (ap isBegun (ap (saidAt f l) (sym q) ∙ y .begun)) (ap isBegun (s .accepted))
+      | inr q ↦ not-named k q (s .named)
+    ]
+
+    not-delivered : (p : Phase) (b k : ℕ) → y .at ≤ k → ¬ DeliversAt f l x p b k
+    not-delivered p b k h s = elim (eq-or-lt-of-le h) [
+      | inl q ↦ (
+          let c : Deliver p (x .number) b ≡ Begin (y .station) (y .round) (y .offer) = sym (s .asked) ∙ ap (commandAt l) (sym q) ∙ y .asked in
+          let k : _≡_ {A = ℕ} 0 1 = cc in
+          omega arith)
+      | inr q ↦ not-named k q (s .named)
+    ]
+
+    rank-not-served : (b k : ℕ) → y .at ≤ k → ¬ ServedAt f l (attemptRank f l x) b k
+    rank-not-served b k h s =
+        let e = one-rank (s .attempt) x (s .rank) in
+        let m = same-number (s .attempt) x e in
+        not-served (s .phase) b k h (record {
+          named = record { earlier = omega (arith, s .named .earlier, e); last = λ j u v q. s .named .last j (omega (arith, e)) v (q ∙ ap said.Begun (sym m)) };
+          asked = s .asked ∙ ap (λ (a : ℕ). Serve (s .phase) a b) m;
+          accepted = s .accepted ∙ ap said.Served m;
+        })
+
+    freed : FreedAt f l x (y .at)
+    freed =
+        let b = begins f l new z y in
+        let e = d .number ∙ b .taken in
+        let u = in-use f l new z x (y .at) (d .named) in
+        freed-of f l new z x (y .at) (d .named) (subst (λ (a : ℕ). isFree (floorAt f l (y .at)) a ≡ true) (sym e) (next-free (floorAt f l (y .at)) (omega arith) (b .place)))
+
+pub given-back : GivenBackTheorem
+given-back n m l = let f = firstFloor n m in let new = new-floor n m in let z = new-sound n m in record {
+  free = free-at f l new z;
+  free-holds = free-there f l new z;
+  used = used-at f l new;
+  highest = highest-at f l new;
+  freed = freed f l new z;
+  not-served = not-served f l new z;
+  not-delivered = not-delivered f l new z;
+  rank-not-served = rank-not-served f l new z;
+  own-answers = own-answer f l new z;
+}

@@ -1,0 +1,55 @@
+-- Document 02, wish 5, on every list of steps: when a row is given back, and that nothing is lost by it. The proof is `given-back` in
+-- proofs/GivenBack.
+use Prim.Native.Nat.{ℕ, _≤_, _<_}
+use mathlib.Core.Path.{_≡_}
+use mathlib.Core.Logic.{_⊎_}
+use mathlib.Core.Bool.{true}
+use mathlib.Core.List.{List}
+use Rattle.requests.specs.Requests.{heardFrom}
+use Rattle.requests.specs.declared.Phase.{Phase}
+use Rattle.attempts.specs.Rows.{requestsOf}
+use Rattle.floor.specs.Floors.{rowAt}
+use Rattle.floor.specs.Free.{isFree}
+use Rattle.floor.specs.Runs.{floorAt}
+use Rattle.floor.specs.declared.Floor.{Floor}
+use Rattle.agreement.specs.Words.{Before, Attempt, attemptRank, Named, ServedAt, ServesAt, DeliversAt, FreedAt, FreeAt, attemptsBefore}
+use Rattle.agreement.specs.Demand.{firstFloor}
+
+module _ (f : Floor) (l : List (List ℕ)) where
+  -- "drops": the begin y takes the row of the attempt x, which its number meant until then
+  pub record Drops (y x : Attempt f l) : Type 0 where
+    pub number : x .number ≡ y .number
+    pub named : Named f l x (y .at)
+
+  -- each answer that is counted for the attempt y, of the box b, was served and delivered for y, and so since its begin
+  pub record OwnAnswer (y : Attempt f l) (phase : Phase) (b i : ℕ) : Type 0 where
+    pub served : Before (ServesAt f l y phase b) i
+    pub delivered : Before (DeliversAt f l y phase b) i
+
+  -- the highest rank begun before the step at i is h
+  pub record HighestAt (h i : ℕ) : Type 0 where
+    pub each : (x : Attempt f l) → x .at < i → attemptRank f l x ≤ h
+    pub some : (h ≡ 0) ⊎ ((x : Attempt f l) × (x .at < i) × (attemptRank f l x ≡ h))
+
+pub record GivenBack (n m : ℕ) (l : List (List ℕ)) : Type 0 where
+  -- a row is free on the floor exactly where the words of demand 3 say so of the list
+  pub free : (a i : ℕ) → a < floorAt (firstFloor n m) l i .used → isFree (floorAt (firstFloor n m) l i) a ≡ true → FreeAt (firstFloor n m) l a i
+  pub free-holds : (a i : ℕ) → FreeAt (firstFloor n m) l a i → (a < floorAt (firstFloor n m) l i .used) × (isFree (floorAt (firstFloor n m) l i) a ≡ true)
+  -- as many rows are in use as attempts were begun, up to 64
+  pub used : (i : ℕ) → ((attemptsBefore (firstFloor n m) l i ≤ 64) × (floorAt (firstFloor n m) l i .used ≡ attemptsBefore (firstFloor n m) l i))
+      ⊎ ((64 < attemptsBefore (firstFloor n m) l i) × (floorAt (firstFloor n m) l i .used ≡ 64))
+  -- "the highest rank begun alone, which the floor keeps": of the whole history
+  pub highest : (i : ℕ) → HighestAt (firstFloor n m) l (floorAt (firstFloor n m) l i .highest) i
+  -- an attempt whose row is taken was over, and its requests were served at every box that answered
+  pub freed : (y x : Attempt (firstFloor n m) l) → Drops (firstFloor n m) l y x → FreedAt (firstFloor n m) l x (y .at)
+  -- from then on no request of it is served and no answer of it is delivered; no box serves its rank
+  pub not-served : (y x : Attempt (firstFloor n m) l) → Drops (firstFloor n m) l y x → (phase : Phase) (b k : ℕ) → y .at ≤ k → ¬ ServesAt (firstFloor n m) l x phase b k
+  pub not-delivered : (y x : Attempt (firstFloor n m) l) → Drops (firstFloor n m) l y x → (phase : Phase) (b k : ℕ) → y .at ≤ k → ¬ DeliversAt (firstFloor n m) l x phase b k
+  pub rank-not-served : (y x : Attempt (firstFloor n m) l) → Drops (firstFloor n m) l y x → (b k : ℕ) → y .at ≤ k → ¬ ServedAt (firstFloor n m) l (attemptRank (firstFloor n m) l x) b k
+  -- and no answer of it is counted for the attempt that has the row then
+  pub own-answers : (y : Attempt (firstFloor n m) l) (i : ℕ) → Named (firstFloor n m) l y i → (phase : Phase) (b : ℕ) → b < firstFloor n m .n
+      → heardFrom (requestsOf phase (rowAt (floorAt (firstFloor n m) l i) (y .number))) b ≡ true → OwnAnswer (firstFloor n m) l y phase b i
+
+-- of every list, from a new floor of any n and m
+abbrev pub GivenBackTheorem : Type 0
+GivenBackTheorem = (n m : ℕ) (l : List (List ℕ)) → GivenBack n m l

@@ -1,0 +1,80 @@
+-- Document 02, wish 5: when a row is free, and the row that a begin takes.
+use Prim.Native.Nat.{ℕ, zero, suc}
+use mathlib.Core.List.{List}
+use mathlib.Core.Bool.{Bool, true, false}
+use lib.ListN.{getD}
+use lib.Dec.{ltb}
+use Rattle.base.specs.Choice.{if_then_else_}
+use Rattle.register.specs.Register.{box0}
+use Rattle.register.specs.declared.StorageBox.{StorageBox}
+use Rattle.commands.specs.declared.Command.{Command}
+use Rattle.commands.specs.declared.Command.the-variants.{Begin, Serve, Deliver, Stop, Leave, Malformed}
+use Rattle.attempts.specs.Stations.{isActive}
+use Rattle.attempts.specs.Rows.{waitsAt}
+use Rattle.attempts.specs.declared.State.{State}
+use Rattle.attempts.specs.declared.Row.{Row}
+use Rattle.floor.specs.Floors.{rowAt, ownerAt}
+use Rattle.floor.specs.declared.Floor.{Floor}
+use Rattle.floor.specs.declared.free.Lowest.{Lowest}
+
+-- one box more, if it has not stopped
+unfoldable pub stillServed : (before stopped waits : Bool) → Bool
+stillServed before stopped waits = if stopped then before else (if waits then false else before)
+
+-- "its issued requests are served at every box not stopped": at none of the first k boxes that has not stopped one of them waits
+unfoldable pub allServed : (w : Row) (boxes : List StorageBox) (k : ℕ) → Bool
+allServed w boxes zero = true
+allServed w boxes (suc k) = stillServed (allServed w boxes k) (getD boxes k box0 .stopped) (waitsAt w k)
+
+-- "An attempt is over when its station no longer reads or writes in it: decided, aborted or gone. Its row is free once it is over and
+-- its issued requests are served at every box not stopped." The row w of the attempt a, whose station is in that state.
+unfoldable pub freeIn : (w : Row) (state : State) (boxes : List StorageBox) (n a : ℕ) → Bool
+freeIn w state boxes n a = if isActive state a then false else allServed w boxes n
+
+-- the row a of a floor
+abbrev pub isFree : (f : Floor) (a : ℕ) → Bool
+isFree f a = freeIn (rowAt f a) (ownerAt f a .state) (f .boxes) (f .n) a
+
+-- the rank is smaller than that of the row found so far, or none was found
+unfoldable pub lowerIn : (x : Lowest) (rank : ℕ) → Bool
+lowerIn x rank = if ltb (x .row) 64 then ltb rank (x .rank) else true
+
+-- the better of the row found so far and the row a: that, if it is free and its rank is smaller
+unfoldable pub betterIn : (x : Lowest) (w : Row) (state : State) (boxes : List StorageBox) (n a : ℕ) → Lowest
+betterIn x w state boxes n a =
+    if lowerIn x (w .rank) then (if freeIn w state boxes n a then record { row = a; rank = w .rank } else x)
+    else x
+
+-- none was found
+abbrev pub noRow : Lowest
+noRow = record { row = 64; rank = 0 }
+
+-- "the free row with the smallest rank, of equals the lowest", among the first k rows; its number is 64 where none of them is free
+unfoldable pub freeBelow : (f : Floor) (k : ℕ) → Lowest
+freeBelow f zero = noRow
+freeBelow f (suc k) = betterIn (freeBelow f k) (rowAt f k) (ownerAt f k .state) (f .boxes) (f .n) k
+
+-- the row that a begin takes: the next, and "With all 64 used .. the free row with the smallest rank"; 64 where no row is unused or free
+unfoldable pub nextRow : (f : Floor) → ℕ
+nextRow f = if ltb (f .used) 64 then f .used else freeBelow f 64 .row
+
+-- Internal, of the loop: only a begin takes a row,
+abbrev pub takenBy : (f : Floor) (c : Command) → ℕ
+takenBy f (Begin s round v) = nextRow f
+takenBy f (Serve p a b) = 0
+takenBy f (Deliver p a b) = 0
+takenBy f (Stop b) = 0
+takenBy f (Leave s) = 0
+takenBy f Malformed = 0
+
+-- and only one with all 64 used has to look for it: it looks at each row, from 0 on
+abbrev pub startOf : (used : ℕ) (c : Command) → Lowest
+startOf used (Begin s round v) = if ltb used 64 then record { row = used; rank = 0 } else noRow
+startOf used (Serve p a b) = record { row = 0; rank = 0 }
+startOf used (Deliver p a b) = record { row = 0; rank = 0 }
+startOf used (Stop b) = record { row = 0; rank = 0 }
+startOf used (Leave s) = record { row = 0; rank = 0 }
+startOf used Malformed = record { row = 0; rank = 0 }
+
+unfoldable pub firstOf : (x : Lowest) → ℕ
+firstOf x = if ltb (x .row) 64 then 64 else 0

@@ -1,0 +1,118 @@
+// Wish 5 of document 02: when a row is free, and the row that a begin takes. These are handed one row at a time: the loop that looks
+// through the rows of a floor stands where the floor is, so that no floor is moved for it.
+ghost use mathlib.Core.Path.{_≡_};
+ghost use Prim.Native.Nat.{_≤_};
+ghost use Rattle.floor.specs.Free.{stillServed, allServed, freeIn, lowerIn, betterIn, startOf, firstOf};
+use attempts::Row;
+use attempts::State;
+use commands::Command;
+use register::StorageBox;
+
+// The free row of the smallest rank found so far, and that rank; the row is 64 where none was found.
+pub struct Lowest {
+    pub row: u8,
+    pub rank: u32,
+}
+
+// One box more, if it has not stopped.
+fn still_served(before: bool, stopped: bool, waits: bool) -> bool
+    ensures { λ r. ⌜ r ≡ stillServed before stopped waits ⌝ }
+{
+    if stopped {
+        return before;
+    }
+    if waits {
+        return false;
+    }
+    before
+}
+
+// At none of the first n boxes that has not stopped a request of the row waits.
+fn all_served(w: Row, boxes: [StorageBox; 9], n: u8) -> bool
+    requires { ⌜ n ≤ 9 ⌝ }
+    ensures { λ r. ⌜ r ≡ allServed w boxes n ⌝ }
+{
+    let mut ok = true;
+    let mut k: u8 = 0;
+    while k < n {
+        let x = boxes[k as usize];
+        let waits = attempts::waits_at(w, k);
+        ok = still_served(ok, x.stopped, waits);
+        k += 1;
+    }
+    ok
+}
+
+// The attempt is over, and its requests are served at every box not stopped; its station is in that state.
+fn free(w: Row, state: State, boxes: [StorageBox; 9], n: u8, a: u8) -> bool
+    requires { ⌜ n ≤ 9 ⌝ }
+    ensures { λ r. ⌜ r ≡ freeIn w state boxes n a ⌝ }
+{
+    if attempts::active(state, a) {
+        return false;
+    }
+    all_served(w, boxes, n)
+}
+
+// The rank is smaller than that of the row found so far, if there was one.
+fn lower(x: Lowest, rank: u32) -> bool
+    ensures { λ r. ⌜ r ≡ lowerIn x rank ⌝ }
+{
+    if x.row < 64 {
+        return rank < x.rank;
+    }
+    true
+}
+
+// The better of the row found so far and the row a.
+pub(crate) fn better(
+    x: Lowest,
+    w: Row,
+    state: State,
+    boxes: [StorageBox; 9],
+    n: u8,
+    a: u8,
+) -> Lowest
+    requires { ⌜ n ≤ 9 ⌝ }
+    ensures { λ r. ⌜ r ≡ betterIn x w state boxes n a ⌝ }
+{
+    if !lower(x, w.rank) {
+        return x;
+    }
+    if free(w, state, boxes, n, a) {
+        return Lowest {
+            row: a,
+            rank: w.rank,
+        };
+    }
+    x
+}
+
+// The row that the command takes where none has to be looked for; else that none was found yet.
+pub(crate) fn start(used: u8, c: Command) -> Lowest
+    ensures { λ r. ⌜ r ≡ startOf used c ⌝ }
+{
+    match c {
+        Command::Begin(_, _, _) => {
+            if used < 64 {
+                return Lowest { row: used, rank: 0 };
+            }
+            Lowest { row: 64, rank: 0 }
+        }
+        Command::Serve(_, _, _) => Lowest { row: 0, rank: 0 },
+        Command::Deliver(_, _, _) => Lowest { row: 0, rank: 0 },
+        Command::Stop(_) => Lowest { row: 0, rank: 0 },
+        Command::Leave(_) => Lowest { row: 0, rank: 0 },
+        Command::Malformed => Lowest { row: 0, rank: 0 },
+    }
+}
+
+// The first row to look at: all are, where none was found yet, and else none.
+pub(crate) fn first(x: Lowest) -> u8
+    ensures { λ r. ⌜ r ≡ firstOf x ⌝ }
+{
+    if x.row < 64 {
+        return 64;
+    }
+    0
+}
