@@ -23,7 +23,7 @@ TOP = HERE.parents[1]
 OUT = TOP / "target" / "division-test"
 START = "solo::solo_finish"
 # What a walk that lost its way would not find.
-KNOWN = {"solo::round_above", "solo::put_record", "base::majority", "base::split32", "commands::encode", "commands::decode", "floor::run_sound", "parts::kinds::change", "requests::masks::count_below", "register::rmw_write"}
+KNOWN = {"solo::round_above", "solo::put_record", "base::majority", "base::split32", "commands::encode", "commands::decode", "floor::run_sound", "floor::next_sound", "floor::free::better", "floor::free::all_served", "attempts::rows::waits_at", "parts::kinds::change", "parts::begin::larger", "requests::masks::count_below", "register::rmw_write"}
 # Calls of no function of the source: the number of ones of a number, and the length of a slice.
 BUILT_IN = {"u16::count_ones", "len"}
 WORDS = {"if", "while", "match", "return", "loop", "else", "let", "in", "as"}

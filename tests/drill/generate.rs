@@ -1,8 +1,8 @@
-//! Pseudo-random drill files from a seed: long runs with much contention, and damaged files of every kind; and parts for the writer. The
-//! same seed and the same number always give the same.
+//! Pseudo-random drill files from a seed: long runs with much contention, runs through more attempts than there are rows, and damaged files
+//! of every kind; and parts for the writer. The same seed and the same number always give the same.
 #![allow(dead_code)]
 
-use crate::reference::{Floor, Phase, Request, State, Step, MOST_ATTEMPTS};
+use crate::reference::{Attempt, Floor, Phase, Request, Said, State, Step, StorageBox, ROWS};
 
 /// xorshift64*, so that the files depend on nothing but the seed.
 pub struct Random(u64);
@@ -44,14 +44,15 @@ impl Random {
 /// The file of that number.
 pub fn file(seed: u64, number: u64) -> Vec<u8> {
     let r = &mut Random::new(seed, number);
-    match number % 20 {
+    match number % 26 {
         0..=10 => run(r),
         11..=13 => damaged(r),
         14 => sized(r),
         15 => crowded(r),
         16..=17 => flipped(r),
         18 => wild_records(r),
-        _ => noise(r),
+        19 => noise(r),
+        _ => given_back(r),
     }
 }
 
@@ -133,7 +134,7 @@ struct Habit {
     deliver: [usize; 2],
     stop: usize,
     gone: usize,
-    /// how often a write that the box would take is put off, in percent, while attempts are left
+    /// how often a write that the box would take is put off, in percent, while rows are unused
     late: usize,
     /// how often a read that the box would answer "outranked" is put off, in percent
     spared: usize,
@@ -166,10 +167,9 @@ fn revision(r: &mut Random) -> u32 {
     }
 }
 
-fn begin(r: &mut Random, floor: &Floor, h: &Habit) -> Option<Step> {
-    if floor.attempts.len() >= MOST_ATTEMPTS {
-        return None;
-    }
+/// A begin that the floor accepts; how often it does not outrank the others, in percent.
+fn begin(r: &mut Random, floor: &Floor, low: usize) -> Option<Step> {
+    floor.next_row()?;
     let idle: Vec<usize> = (0..floor.stations.len())
         .filter(|s| floor.stations[*s].state == State::Idle && floor.stations[*s].last_round < 65_535)
         .collect();
@@ -178,10 +178,10 @@ fn begin(r: &mut Random, floor: &Floor, h: &Habit) -> Option<Step> {
     }
     let station = r.pick(&idle);
     let next = floor.stations[station].last_round + 1;
-    let top = floor.attempts.iter().map(|a| a.rank).max().unwrap_or(0) / 16 + 1;
-    let round = if r.below(400) == 0 {
+    let top = floor.stations.iter().map(|s| s.last_round).max().unwrap_or(0) + 1;
+    let round = if floor.rows.len() < ROWS && r.below(400) == 0 {
         65_535
-    } else if r.percent(h.low) {
+    } else if r.percent(low) {
         next
     } else if r.percent(5) {
         top.max(next) + r.below(300) as u32
@@ -191,10 +191,14 @@ fn begin(r: &mut Random, floor: &Floor, h: &Habit) -> Option<Step> {
     Some(Step::Begin { station, round: round.min(65_535), revision: revision(r) })
 }
 
+fn would_take(storage: &StorageBox, a: &Attempt) -> bool {
+    storage.read_rank <= a.rank && storage.held.map_or(0, |x| x.0) < a.rank
+}
+
 /// A step that the floor accepts, of a kind that the habit favours.
 fn accepted(r: &mut Random, floor: &Floor, h: &Habit) -> Option<Step> {
     let mut by_kind: [Vec<Step>; 6] = Default::default();
-    for (number, a) in floor.attempts.iter().enumerate() {
+    for (number, a) in floor.rows.iter().enumerate() {
         let gone = floor.stations[a.station].state == State::Gone;
         for (b, storage) in floor.boxes.iter().enumerate() {
             for (phase, waiting, on_the_way) in [
@@ -202,10 +206,9 @@ fn accepted(r: &mut Random, floor: &Floor, h: &Habit) -> Option<Step> {
                 (Phase::Write, a.writes[b] == Request::Waiting, matches!(a.writes[b], Request::OnTheWay(_))),
             ] {
                 if waiting && !storage.stopped {
-                    let taken = storage.read_rank <= a.rank && storage.held.map_or(0, |x| x.0) < a.rank;
                     let put_off = match phase {
                         Phase::Read => storage.outranks(a.rank) && r.percent(h.spared),
-                        Phase::Write => taken && floor.attempts.len() < MOST_ATTEMPTS && r.percent(h.late),
+                        Phase::Write => would_take(storage, a) && floor.rows.len() < ROWS && r.percent(h.late),
                     };
                     let kind = if put_off { 5 } else { phase as usize };
                     by_kind[kind].push(Step::Serve { phase, attempt: number, at: b });
@@ -226,7 +229,7 @@ fn accepted(r: &mut Random, floor: &Floor, h: &Habit) -> Option<Step> {
             by_kind[4].push(Step::Gone { station: s });
         }
     }
-    let fresh = begin(r, floor, h);
+    let fresh = begin(r, floor, h.low);
     let weights = [
         h.serve[0] * !by_kind[0].is_empty() as usize,
         h.serve[1] * !by_kind[1].is_empty() as usize,
@@ -252,7 +255,7 @@ fn accepted(r: &mut Random, floor: &Floor, h: &Habit) -> Option<Step> {
 
 /// A step of any kind that may or may not be accepted, its numbers at and about the limits.
 fn about(r: &mut Random, floor: &Floor) -> Step {
-    let attempt = if r.percent(20) { r.pick(&[floor.attempts.len(), 63, 64, 255]) } else { r.below(floor.attempts.len() + 1) };
+    let attempt = if r.percent(20) { r.pick(&[floor.rows.len(), 63, 64, 255]) } else { r.below(floor.rows.len() + 1) };
     let b = if r.percent(10) { r.pick(&[floor.boxes.len(), 9, 255]) } else { r.below(floor.boxes.len()) };
     let station = if r.percent(10) { r.pick(&[floor.stations.len(), 16, 255]) } else { r.below(floor.stations.len()) };
     let phase = if r.percent(50) { Phase::Read } else { Phase::Write };
@@ -269,7 +272,7 @@ fn about(r: &mut Random, floor: &Floor) -> Step {
     }
 }
 
-/// A record that the floor turns back with that refusal, where there is one.
+/// A record that the floor turns back with that refusal, where there is one. With no row for a begin it is a begin, if one can be so refused.
 fn turned_back(r: &mut Random, floor: &Floor, refusal: u8) -> Option<[u8; 8]> {
     if refusal == 7 {
         let mut record = encode(about(r, floor));
@@ -287,7 +290,12 @@ fn turned_back(r: &mut Random, floor: &Floor, refusal: u8) -> Option<[u8; 8]> {
         }
         return Some(record);
     }
-    (0..400).map(|_| about(r, floor)).find(|step| floor.clone().step(*step) == Err(refusal)).map(encode)
+    let full = floor.next_row().is_none();
+    if refusal == 12 && !full {
+        return None;
+    }
+    let wanted = |step: &Step| !full || refusal > 12 || matches!(step, Step::Begin { .. });
+    (0..400).map(|_| about(r, floor)).find(|step| wanted(step) && floor.clone().step(*step) == Err(refusal)).map(encode)
 }
 
 fn sizes(r: &mut Random) -> (usize, usize) {
@@ -313,7 +321,7 @@ fn run(r: &mut Random) -> Vec<u8> {
     let most = r.pick(&[0, 5, 40, 150, 150, 400, 400, 800, 2400]);
     let (mut records, mut floor) = accepted_steps(r, n, m, most);
     if r.percent(45) {
-        let refusal = if floor.attempts.len() == MOST_ATTEMPTS && r.percent(70) { 12 } else { r.between(7, 14) as u8 };
+        let refusal = if floor.next_row().is_none() && r.percent(70) { 12 } else { r.between(7, 14) as u8 };
         // a station that is gone for refusal 9, a box that has stopped for refusal 13
         let first = match refusal {
             9 => Some(Step::Gone { station: r.below(m) }),
@@ -325,17 +333,258 @@ fn run(r: &mut Random) -> Vec<u8> {
         }
         if let Some(record) = turned_back(r, &floor, refusal) {
             records.push(record);
-            for _ in 0..r.below(20) {
-                records.push(encode(about(r, &floor)));
-            }
-            if r.percent(4) {
-                while records.len() < 4096 {
-                    records.push(encode(about(r, &floor)));
-                }
-            }
+            more(r, &floor, &mut records);
         }
     }
     let length = r.between(1, 32);
+    let name = label(r, length);
+    frame(n as u8, m as u8, &name, &records)
+}
+
+/// Some records behind one that is turned back, now and then as many as a file may have.
+fn more(r: &mut Random, floor: &Floor, records: &mut Vec<[u8; 8]>) {
+    for _ in 0..r.below(20) {
+        records.push(encode(about(r, floor)));
+    }
+    if r.percent(4) {
+        while records.len() < 4096 {
+            records.push(encode(about(r, floor)));
+        }
+    }
+}
+
+/// How a run through more attempts than rows is driven. At most 16 rows are those of stations that read or write, so that with all 64 used
+/// none is free only where requests of attempts that are over are left waiting; with one box there are none such but those of stations gone.
+struct Wear {
+    /// how often each is wanted: a begin, a step of an attempt that is not over, a late serve, a late delivery
+    wanted: [usize; 4],
+    /// how often a begin does not outrank the others, in percent
+    low: usize,
+    /// how often a write that the box would take is put off, in percent
+    late: usize,
+    /// how often the requests of an attempt are served as soon as it is over, in percent
+    cleared: usize,
+    /// how often one of them, or what waits at this box, is left waiting then, in percent
+    but_one: usize,
+    but_at: Option<usize>,
+    /// in a thousand steps
+    stop: usize,
+    gone: usize,
+}
+
+fn wear(r: &mut Random, n: usize, m: usize) -> Wear {
+    // most of the rows are free, few, or none
+    let (served, cleared, but_one) = match r.below(3) {
+        0 => (r.pick(&[0, 1, 3]), r.pick(&[90, 100]), r.pick(&[0, 0, 5])),
+        1 => (r.pick(&[0, 1, 3]), r.pick(&[60, 90, 100]), r.pick(&[60, 95])),
+        _ => (r.pick(&[0, 0, 0, 1]), r.pick(&[0, 0, 50, 100]), 100),
+    };
+    let rough = r.percent(50);
+    Wear {
+        wanted: [r.between(2, 8), r.between(4, 16), served, r.pick(&[0, 1, 2])],
+        low: r.pick(&[0, 10, 50, 90]),
+        late: r.pick(&[100, 100, 99, 99, 97, 90]),
+        cleared,
+        but_one,
+        but_at: if r.percent(50) { Some(r.below(n)) } else { None },
+        stop: if rough { r.below(6) } else { 0 },
+        gone: if rough { r.below(1 + m / 2) } else { 0 },
+    }
+}
+
+/// As many attempts as fit into a file: each is soon over and its row free at once.
+fn brisk(r: &mut Random) -> Wear {
+    Wear { wanted: [6, 8, 0, 0], low: r.pick(&[0, 50, 90]), late: 100, cleared: 100, but_one: 0, but_at: None, stop: 0, gone: 0 }
+}
+
+/// The serves of an attempt that the floor accepts.
+fn serves(floor: &Floor, row: usize) -> Vec<Step> {
+    let a = &floor.rows[row];
+    let mut steps = Vec::new();
+    for at in (0..floor.boxes.len()).filter(|b| !floor.boxes[*b].stopped) {
+        if a.reads[at] == Request::Waiting {
+            steps.push(Step::Serve { phase: Phase::Read, attempt: row, at });
+        }
+        if a.writes[at] == Request::Waiting {
+            steps.push(Step::Serve { phase: Phase::Write, attempt: row, at });
+        }
+    }
+    steps
+}
+
+/// The answers of an attempt that are on the way.
+pub fn on_the_way(a: &Attempt) -> Vec<(Phase, usize)> {
+    let mut answers = Vec::new();
+    for b in 0..a.reads.len() {
+        if matches!(a.reads[b], Request::OnTheWay(_)) {
+            answers.push((Phase::Read, b));
+        }
+        if matches!(a.writes[b], Request::OnTheWay(_)) {
+            answers.push((Phase::Write, b));
+        }
+    }
+    answers
+}
+
+/// A step of an attempt in the phase that its station is in. Writes that a box would take are put off, unless nothing else is left to do.
+fn in_phase(r: &mut Random, floor: &Floor, w: &Wear, row: usize, phase: Phase, pressed: bool) -> Option<Step> {
+    let (a, n) = (&floor.rows[row], floor.boxes.len());
+    let (first, deliver) = (r.below(n), r.percent(60));
+    let put_off = phase == Phase::Write && !pressed && r.percent(w.late);
+    for kind in [deliver, !deliver] {
+        for b in (first..n).chain(0..first) {
+            let (waiting, answered) = match phase {
+                Phase::Read => (a.reads[b] == Request::Waiting, matches!(a.reads[b], Request::OnTheWay(_))),
+                Phase::Write => (a.writes[b] == Request::Waiting, matches!(a.writes[b], Request::OnTheWay(_))),
+            };
+            if kind && answered {
+                return Some(Step::Deliver { phase, attempt: row, from: b });
+            }
+            let storage = &floor.boxes[b];
+            if !kind && waiting && !storage.stopped && !(put_off && would_take(storage, a)) {
+                return Some(Step::Serve { phase, attempt: row, at: b });
+            }
+        }
+    }
+    None
+}
+
+/// A step that the floor accepts, found at a few places only.
+fn worn(r: &mut Random, floor: &Floor, w: &Wear, pressed: bool) -> Option<Step> {
+    if r.below(1000) < w.stop {
+        let (at, answering) = (r.below(floor.boxes.len()), floor.boxes.iter().filter(|b| !b.stopped).count());
+        let spared = answering <= floor.quorum() && r.percent(80);
+        return Some(Step::Stop { at }).filter(|_| !floor.boxes[at].stopped && !spared);
+    }
+    if r.below(1000) < w.gone {
+        let station = r.below(floor.stations.len());
+        return Some(Step::Gone { station }).filter(|_| floor.stations[station].state != State::Gone);
+    }
+    let mut at = r.below(w.wanted.iter().sum());
+    let mut kind = 0;
+    while at >= w.wanted[kind] {
+        at -= w.wanted[kind];
+        kind += 1;
+    }
+    if kind == 0 {
+        return begin(r, floor, w.low);
+    }
+    if kind == 1 {
+        let busy: Vec<(usize, Phase)> = floor
+            .stations
+            .iter()
+            .filter_map(|s| match s.state {
+                State::Reading(row) => Some((row, Phase::Read)),
+                State::Writing(row) => Some((row, Phase::Write)),
+                _ => None,
+            })
+            .collect();
+        if busy.is_empty() {
+            return None;
+        }
+        let (row, phase) = r.pick(&busy);
+        return in_phase(r, floor, w, row, phase, pressed);
+    }
+    for _ in 0..8.min(floor.rows.len()) {
+        let row = r.below(floor.rows.len());
+        let gone = floor.stations[floor.rows[row].station].state == State::Gone;
+        if !floor.over(row) || (kind == 3 && gone) {
+            continue;
+        }
+        let late: Vec<Step> = match kind {
+            2 => serves(floor, row),
+            _ => on_the_way(&floor.rows[row]).iter().map(|(phase, b)| Step::Deliver { phase: *phase, attempt: row, from: *b }).collect(),
+        };
+        if !late.is_empty() {
+            return Some(r.pick(&late));
+        }
+    }
+    None
+}
+
+/// Steps that are all accepted, `most` at most, and the floor behind them. In some of the runs no write is put off towards the end.
+fn worn_steps(r: &mut Random, w: &Wear, n: usize, m: usize, most: usize) -> (Vec<[u8; 8]>, Floor) {
+    let (mut floor, mut records) = (Floor::new(n, m), Vec::new());
+    let early = most - r.pick(&[0, 10, 20, 40]) * n;
+    let mut tried = 0;
+    while records.len() < most && tried < 60 {
+        tried += 1;
+        let Some(step) = worn(r, &floor, w, tried > 30 || records.len() > early) else { continue };
+        tried = 0;
+        let state = if let Step::Gone { station } = step { floor.stations[station].state } else { State::Idle };
+        let said = floor.step(step).expect("the step was chosen because it is accepted");
+        records.push(encode(step));
+        let ended = match (step, said, state) {
+            (Step::Deliver { attempt, .. }, Said::Aborted(_) | Said::Decided(_), _) => Some(attempt),
+            (_, _, State::Reading(row) | State::Writing(row)) => Some(row),
+            _ => None,
+        };
+        let Some(row) = ended.filter(|_| r.percent(w.cleared)) else { continue };
+        let mut left = serves(&floor, row);
+        if !left.is_empty() && r.percent(w.but_one) {
+            match w.but_at {
+                Some(b) => left.retain(|step| !matches!(step, Step::Serve { at, .. } if *at == b)),
+                None => drop(left.swap_remove(r.below(left.len()))),
+            }
+        }
+        for step in left.into_iter().take(most - records.len()) {
+            floor.step(step).expect("the request waits");
+            records.push(encode(step));
+        }
+    }
+    (records, floor)
+}
+
+/// A begin in the next row, and steps behind it that may have been meant for the attempt that was there before.
+fn belated(r: &mut Random, floor: &mut Floor, records: &mut Vec<[u8; 8]>) {
+    let (Some(step), Some(row)) = (begin(r, floor, 0), floor.next_row()) else { return };
+    let dropped = floor.rows.get(row).map_or(Vec::new(), on_the_way);
+    floor.step(step).expect("a station is idle and a row free");
+    records.push(encode(step));
+    for _ in 0..r.between(1, 4) {
+        let (phase, b) = match r.below(3) {
+            0 if !dropped.is_empty() => r.pick(&dropped),
+            1 => (Phase::Read, r.below(floor.boxes.len())),
+            _ => (Phase::Write, r.below(floor.boxes.len())),
+        };
+        let deliver = dropped.contains(&(phase, b)) || r.percent(30);
+        let step = if deliver { Step::Deliver { phase, attempt: row, from: b } } else { Step::Serve { phase, attempt: row, at: b } };
+        records.push(encode(step));
+        if floor.step(step).is_err() {
+            return;
+        }
+    }
+}
+
+/// A run through more attempts than there are rows, accepted whole, or turned back at its last step or before.
+fn given_back(r: &mut Random) -> Vec<u8> {
+    let many = r.percent(5);
+    let n = if many { r.pick(&[1, 1, 1, 2, 3]) } else { r.pick(&[1, 1, 2, 2, 3, 3, 3, 4, 4, 5, 6, 7, 8, 9]) };
+    let m = if many { r.pick(&[2, 3, 16]) } else { r.pick(&[2, 3, 4, 6, 8, 12, 16, 16, 16]) };
+    let w = if many { brisk(r) } else { wear(r, n, m) };
+    let most = if many || r.percent(5) { 4096 } else { 100 * n + r.pick(&[300, 300, 500, 800, 1500]) };
+    let (mut records, mut floor) = worn_steps(r, &w, n, m, most);
+    let full = floor.next_row().is_none();
+    match r.below(3) {
+        0 if !full => {}
+        1 if !full => {
+            belated(r, &mut floor, &mut records);
+            more(r, &floor, &mut records);
+        }
+        _ => {
+            let refusal = if full { r.pick(&[12, 12, 12, 12, 11, 11, 10, 9, 9, 8]) } else { r.pick(&[14, 14, 14, 13, 11, 10, 9, 8]) };
+            let gone = Step::Gone { station: r.below(m) };
+            if refusal == 9 && floor.step(gone).is_ok() {
+                records.push(encode(gone));
+            }
+            if let Some(record) = turned_back(r, &floor, refusal) {
+                records.push(record);
+                more(r, &floor, &mut records);
+            }
+        }
+    }
+    records.truncate(4096);
+    let length = r.between(1, 24);
     let name = label(r, length);
     frame(n as u8, m as u8, &name, &records)
 }

@@ -95,10 +95,11 @@ pub struct Attempt {
 pub struct Floor {
     pub boxes: Vec<StorageBox>,
     pub stations: Vec<Station>,
-    pub attempts: Vec<Attempt>,
+    /// The rows used so far, each with the attempt that was begun in it last.
+    pub rows: Vec<Attempt>,
 }
 
-pub const MOST_ATTEMPTS: usize = 64;
+pub const ROWS: usize = 64;
 
 impl StorageBox {
     fn write_rank(&self) -> u32 {
@@ -133,12 +134,39 @@ impl Floor {
     pub fn new(n: usize, m: usize) -> Floor {
         let storage_box = StorageBox { read_rank: 0, held: None, stopped: false };
         let station = Station { state: State::Idle, last_round: 0, last_rank: 0, decided: None };
-        Floor { boxes: vec![storage_box; n], stations: vec![station; m], attempts: Vec::new() }
+        Floor { boxes: vec![storage_box; n], stations: vec![station; m], rows: Vec::new() }
     }
 
     /// q: n / 2 rounded down, plus 1.
     pub fn quorum(&self) -> usize {
         self.boxes.len() / 2 + 1
+    }
+
+    /// Document 02, wish 5: an attempt is over when its station no longer reads or writes in it.
+    pub fn over(&self, row: usize) -> bool {
+        let state = self.stations[self.rows[row].station].state;
+        state != State::Reading(row) && state != State::Writing(row)
+    }
+
+    /// Document 02, wish 5: a row is free once its attempt is over and its issued requests are served at every box not stopped.
+    pub fn free(&self, row: usize) -> bool {
+        let attempt = &self.rows[row];
+        let waits = |b: usize| attempt.reads[b] == Request::Waiting || attempt.writes[b] == Request::Waiting;
+        self.over(row) && (0..self.boxes.len()).all(|b| self.boxes[b].stopped || !waits(b))
+    }
+
+    /// Document 02, wish 5: the row that a begin takes. With all used it is the free one with the smallest rank, of equals the lowest.
+    pub fn next_row(&self) -> Option<usize> {
+        if self.rows.len() < ROWS {
+            return Some(self.rows.len());
+        }
+        let mut next: Option<usize> = None;
+        for row in 0..self.rows.len() {
+            if self.free(row) && next.map_or(true, |other| self.rows[row].rank < self.rows[other].rank) {
+                next = Some(row);
+            }
+        }
+        next
     }
 
     pub fn step(&mut self, step: Step) -> Result<Said, Refusal> {
@@ -167,7 +195,7 @@ impl Floor {
     }
 
     fn begin(&mut self, station: usize, round: u32, revision: u32) -> Result<Said, Refusal> {
-        let s = self.stations.get_mut(station).ok_or(8)?;
+        let s = self.stations.get(station).ok_or(8)?;
         match s.state {
             State::Gone => return Err(9),
             State::Reading(_) | State::Writing(_) | State::Decided => return Err(10),
@@ -176,28 +204,32 @@ impl Floor {
         if revision == 0 || round == 0 || round <= s.last_round {
             return Err(11);
         }
-        if self.attempts.len() >= MOST_ATTEMPTS {
-            return Err(12);
-        }
-        let number = self.attempts.len();
+        let number = self.next_row().ok_or(12)?;
         let rank = round * 16 + station as u32;
+        let s = &mut self.stations[station];
         s.state = State::Reading(number);
         s.last_round = round;
         s.last_rank = rank;
         let n = self.boxes.len();
-        self.attempts.push(Attempt {
+        let attempt = Attempt {
             station,
             rank,
             offer: revision,
             written: None,
             reads: vec![Request::Waiting; n],
             writes: vec![Request::NotIssued; n],
-        });
+        };
+        if number == self.rows.len() {
+            self.rows.push(attempt);
+        } else {
+            // what was in the row, answers on the way too, is dropped
+            self.rows[number] = attempt;
+        }
         Ok(Said::Begun(number))
     }
 
     fn serve(&mut self, phase: Phase, number: usize, at: usize) -> Result<Said, Refusal> {
-        let attempt = self.attempts.get_mut(number).ok_or(8)?;
+        let attempt = self.rows.get_mut(number).ok_or(8)?;
         let b = self.boxes.get_mut(at).ok_or(8)?;
         if b.stopped {
             return Err(13);
@@ -222,7 +254,7 @@ impl Floor {
 
     fn deliver_read(&mut self, number: usize, from: usize) -> Result<Said, Refusal> {
         let q = self.quorum();
-        let attempt = self.attempts.get_mut(number).ok_or(8)?;
+        let attempt = self.rows.get_mut(number).ok_or(8)?;
         if from >= self.boxes.len() {
             return Err(8);
         }
@@ -260,7 +292,7 @@ impl Floor {
 
     fn deliver_write(&mut self, number: usize, from: usize) -> Result<Said, Refusal> {
         let q = self.quorum();
-        let attempt = self.attempts.get_mut(number).ok_or(8)?;
+        let attempt = self.rows.get_mut(number).ok_or(8)?;
         if from >= self.boxes.len() {
             return Err(8);
         }

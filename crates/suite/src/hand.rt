@@ -6,6 +6,8 @@
 //     f2 box read write value stopped         a box
 //     f3 station state attempt last decided   a station; its state counts from 0, in the order of `State`
 //     f7 row boxes                            the answers to the reads of a row that are outranked, as a mask of boxes
+//     fb row rank                             the rank of a row, a number of four bytes
+//     fc rank                                 the highest rank begun, a number of four bytes
 use attempts::Row;
 use attempts::State;
 use attempts::Station;
@@ -105,6 +107,25 @@ pub(crate) fn change(mut f: Floor, r: [u8; 8]) -> Floor {
             f.stations[(place % 16) as usize] = station(r);
         }
     }
+    f
+}
+
+fn ranked(w: Row, rank: u32) -> Row {
+    let mut x = w;
+    x.rank = rank;
+    x
+}
+
+// The floor with another rank of a row.
+pub(crate) fn row_rank(mut f: Floor, row: u8, rank: u32) -> Floor {
+    let a = (row % 64) as usize;
+    f.rows[a] = ranked(f.rows[a], rank);
+    f
+}
+
+// The floor with another highest rank begun.
+pub(crate) fn highest(mut f: Floor, rank: u32) -> Floor {
+    f.highest = rank;
     f
 }
 

@@ -26,6 +26,7 @@ fn case(kind: u8, s: &[u8]) {
         b'p' => show::play(s, bytes),
         b'r' => show::run(words, bytes),
         b'h' => show::by_hand(words, bytes),
+        b'b' => show::behind(words, bytes),
         b'n' => show::new_floor(s, bytes),
         b'w' => write::parts(s, bytes),
         b'g' => frame::get(s, bytes),

@@ -3,7 +3,7 @@
 //
 // Some records stand for others (`expanded`):
 //
-//     f8 boxes count          a chain of that many attempts, each of which outranks the one before (`attempt`)
+//     f8 boxes count          a chain of that many attempts, each of which outranks the one before (`attempt`), through the 64 rows
 //     f9 size                 zeros up to that size of the file, a number of two bytes
 //     fa kind attempt count   the reads (2) or writes (3) of an attempt at that many boxes from box 0 on (`phase`)
 use crate::text;
@@ -49,14 +49,15 @@ fn phase(out: &mut [u8], at: usize, kind: u8, a: u8, n: u8) -> usize {
 }
 
 // Attempt k of a chain. Stations 0 and 1 begin in turn, each with the lowest round that outranks the other, and offer the
-// revision 256 + k. The read comes before the write of attempt k - 1, which is therefore not taken.
+// revision 256 + k. The read comes before the write of attempt k - 1, which is therefore not taken. From attempt 64 on the rows are
+// taken again in their order: of those that are over the oldest has the smallest rank.
 fn attempt(out: &mut [u8], at: usize, n: u8, k: u8) -> usize {
     let begun = push_record(out, at, [1, k % 2, 0, k / 2 + 1, 0, 0, 1, k]);
-    let read = phase(out, begun, 2, k, n);
+    let read = phase(out, begun, 2, k % 64, n);
     if k == 0 {
         return read;
     }
-    phase(out, read, 3, k - 1, n)
+    phase(out, read, 3, (k - 1) % 64, n)
 }
 
 fn chain(out: &mut [u8], at: usize, n: u8, count: u8) -> usize {

@@ -3,13 +3,11 @@ use crate::say;
 use crate::text;
 use floor::Floor;
 
-// A new floor of one box and sixteen stations, but for so many rows in use, of which the first has this rank.
+// A new floor of one box and sixteen stations, but for so many rows in use and this highest rank begun.
 fn with_rank(used: u8, rank: u32) -> Floor {
     let made = floor::new_floor(1, 16);
     let mut f = made.floor;
-    let mut first = f.rows[0];
-    first.rank = rank;
-    f.rows[0] = first;
+    f.highest = rank;
     f.used = used;
     f
 }

@@ -70,6 +70,33 @@ pub(crate) fn change(r: [u8; 8]) {
     );
 }
 
+// The rows in use and the highest rank begun.
+pub(crate) fn kept(f: Floor) {
+    text::fill(
+        b"; rows in use %, highest rank begun %",
+        &[f.used as u64, f.highest as u64],
+    );
+}
+
+// A row.
+pub(crate) fn row(f: Floor, number: u8) {
+    let w = f.rows[(number % 64) as usize];
+    let read = w.read;
+    let write = w.write;
+    text::fill(
+        b"row %: station %, rank %, offer %, writes %, read answers received by mask %, write answers by mask %",
+        &[
+            number as u64,
+            w.station as u64,
+            w.rank as u64,
+            w.offer as u64,
+            w.written as u64,
+            read.heard as u64,
+            write.heard as u64,
+        ],
+    );
+}
+
 // A refusal with its cause.
 pub(crate) fn refusal(k: u8) {
     text::pick(
@@ -77,7 +104,7 @@ pub(crate) fn refusal(k: u8) {
         |refusal % (not whole records, or more than 4,096)|refusal % (floor not sound)\
         |refusal % (kind, or a byte that should be zero)|refusal % (no such station, box or attempt)\
         |refusal % (station gone)|refusal % (station reading, writing or decided)|refusal % (revision or round)\
-        |refusal % (64 rows used)|refusal % (box stopped)|refusal % (not waiting, or not on the way)\
+        |refusal % (no row unused or free)|refusal % (box stopped)|refusal % (not waiting, or not on the way)\
         |refusal % (fewer than q boxes not stopped)|refusal %|refusal %|refusal % (buffer shorter than the file)\
         |refusal % (length of the frame)|refusal % (version of the frame)|refusal % (kind, or rank or revision 0)|refusal %",
         at_most(22, k),

@@ -80,6 +80,17 @@ fn tallies(f: Floor, count: u8) -> Floor {
     f
 }
 
+// Hands bytes to `run` and says how many steps were accepted, and the refusal.
+fn run_of(f: Floor, bytes: &[u8]) -> Floor {
+    let played = floor::run(f, bytes);
+    text::fill(
+        b"run of % bytes -> accepted %, ",
+        &[bytes.len() as u64, played.accepted as u64],
+    );
+    say::refusal(played.refusal);
+    played.floor
+}
+
 // A run of the last bytes of three records, the stop of box 0, of box 1, and of box 0 again.
 fn run_of_bytes(f: Floor, size: u8) -> Floor {
     let count = size % 25;
@@ -109,14 +120,28 @@ fn run_of_bytes(f: Floor, size: u8) -> Floor {
         0,
         0,
     ];
-    let bytes = text::from(&stops, (24 - count) as usize);
-    let played = floor::run(f, bytes);
-    text::fill(
-        b"run of % bytes -> accepted %, ",
-        &[count as u64, played.accepted as u64],
-    );
-    say::refusal(played.refusal);
-    played.floor
+    run_of(f, text::from(&stops, (24 - count) as usize))
+}
+
+// The rank of a row by hand.
+fn row_rank(f: Floor, r: [u8; 8]) -> Floor {
+    let rank = text::word(r[2], r[3], r[4], r[5]);
+    text::fill(b"by hand: row % of rank %", &[r[1] as u64, rank as u64]);
+    hand::row_rank(f, r[1], rank)
+}
+
+// The highest rank begun by hand.
+fn highest(f: Floor, r: [u8; 8]) -> Floor {
+    let rank = text::word(r[1], r[2], r[3], r[4]);
+    text::fill(b"by hand: highest rank begun %", &[rank as u64]);
+    hand::highest(f, rank)
+}
+
+// A row as it stands.
+fn row(f: Floor, number: u8) -> Floor {
+    say::row(f, number);
+    say::kept(f);
+    f
 }
 
 // A record that is no step.
@@ -126,6 +151,9 @@ fn by_other(f: Floor, r: [u8; 8]) -> Floor {
         0xf4 => alone(f, r),
         0xf5 => tallies(f, r[1]),
         0xf6 => run_of_bytes(f, r[1]),
+        0xfb => row_rank(f, r),
+        0xfc => highest(f, r),
+        0xfd => row(f, r[1]),
         _ => {
             say::change(r);
             hand::change(f, r)
@@ -155,14 +183,19 @@ fn steps(start: Floor, records: &[u8], by_hand: bool) -> Floor {
     f
 }
 
-// Says what came of each step of a file, also behind a refused one.
-fn listed(words: &[u8], bytes: &[u8], by_hand: bool) -> Floor {
+// Says what the case is, and makes the new floor of the sizes in a file.
+fn started(words: &[u8], bytes: &[u8]) -> Floor {
     let n = text::byte_at(bytes, 3);
     let m = text::byte_at(bytes, 4);
     text::print(words);
     text::fill(b"(new floor: boxes %, stations %)", &[n as u64, m as u64]);
     let made = floor::new_floor(n, m);
-    let start = made.floor;
+    made.floor
+}
+
+// Says what came of each step of a file, also behind a refused one.
+fn listed(words: &[u8], bytes: &[u8], by_hand: bool) -> Floor {
+    let start = started(words, bytes);
     let f = steps(start, records(bytes), by_hand);
     text::print(b"\n");
     f
@@ -181,6 +214,17 @@ pub(crate) fn run(words: &[u8], bytes: &[u8]) {
 // Each step on a floor that records change by hand.
 pub(crate) fn by_hand(words: &[u8], bytes: &[u8]) {
     listed(words, bytes, true);
+}
+
+// The same, but for the records before the first byte fe, which are handed to `run`; those behind the record of that byte are listed.
+pub(crate) fn behind(words: &[u8], bytes: &[u8]) {
+    let start = started(words, bytes);
+    let all = records(bytes);
+    let mark = text::find(all, 0, 0xfe);
+    text::print(b"\n  ");
+    let f = run_of(start, text::up_to(all, mark));
+    steps(f, text::from(text::from(all, mark), 8), true);
+    text::print(b"\n");
 }
 
 // A new floor.
