@@ -14,7 +14,8 @@ use Rattle.requests.specs.declared.Phase.{Phase}
 use Rattle.requests.specs.declared.Phase.the-variants.{Read, Write}
 use Rattle.register.specs.Register.{box0}
 use Rattle.commands.specs.Commands.{commandOf, encodeOf}
-use Rattle.floor.specs.Free.{nextRow}
+use Rattle.floor.specs.Floors.{departmentAt}
+use Rattle.floor.specs.Effects.{rowTaken}
 use Rattle.floor.specs.Claims.{Sound}
 use Rattle.floor.specs.declared.Floor.{Floor}
 use Rattle.commands.specs.declared.Command.{Command}
@@ -28,7 +29,7 @@ use Rattle.floor.specs.Runs.{floorAt}
 use Rattle.agreement.specs.Words.{Answering, IdleAt, RowLeft, RoundLeft}
 use Rattle.agreement.proofs.Reach.{New}
 use Rattle.agreement.proofs.Positions.{size-at}
-use Rattle.agreement.proofs.Standing.{stations-at, stopped-before, idle-state, round-outranks}
+use Rattle.agreement.proofs.Standing.{department-at, stations-at, stopped-before, idle-state, round-outranks}
 use Rattle.agreement.proofs.FreeRows.{row-left}
 
 -- a set of boxes that have not stopped is no larger than the list of them
@@ -58,13 +59,18 @@ count-answering boxes (suc k) b set h =
 
 -- the words of the list, on the floor before the step at i
 module _ (f : Floor) (l : List (List ℕ)) (new : New f) (z : Sound f) (s v i : ℕ) where
-  pub ready : s < f .m → IdleAt f l s i → Majority (f .n) (Answering f l i) → RowLeft f l i → RoundLeft f l s i → 0 < v → Ready (floorAt f l i) s v
+  pub ready : s < f .m → IdleAt f l s i → Majority (f .n) (Answering f l i) → RowLeft f l (departmentAt f s) i → RoundLeft f l (departmentAt f s) s i → 0 < v → Ready (floorAt f l i) s v
   ready place idle boxes row round offer = record {
     station = omega (arith, stations-at f l new i);
     idle = idle-state f l new s i idle;
     offer = offer;
-    round = omega (arith, round-smallest (floorAt f l i) s .least (round .round) (round .least) (round-outranks f l new s i round), round .most);
-    row = row-left f l new z i row;
+    round = omega (
+      arith,
+      round-smallest (floorAt f l i) s .least (round .round) (round .least)
+          (rw (department-at f l new s i) (round-outranks f l new (departmentAt f s) s i round)),
+      round .most,
+    );
+    row = rw (department-at f l new s i) (row-left f l new z (departmentAt f s) i row);
     boxes = rw (size-at f l i) (le-trans (boxes .large)
         (count-answering (floorAt f l i .boxes) (f .n) 0 (boxes .set) (λ j h t. subst (λ (b : ℕ). getD (floorAt f l i .boxes) b box0 .stopped ≡ false) (sym (zero-add j))
         (not-true-false _ (λ e. boxes .each j h t (stopped-before f l new j i e))))));
@@ -118,16 +124,16 @@ exchanges-no-begin a p (b ∷ l) = (no-begin (Serve p a b) refl, (no-begin (Deli
 pub plan-no-begin : (g : Floor) (s v i : ℕ) → suc i < length (planOf g s v) → NoBegin (getD (planOf g s v) (suc i) [])
 unfolding exchangesOf
 plan-no-begin g s v i h =
-    each-at NoBegin (exchangesOf g)
-    (each-append NoBegin (exchanges Read (nextRow g) (askedOf g)) _ (exchanges-no-begin (nextRow g) Read (askedOf g)) (exchanges-no-begin (nextRow g) Write (askedOf g)))
+    each-at NoBegin (exchangesOf g s)
+    (each-append NoBegin (exchanges Read (rowTaken g s) (askedOf g)) _ (exchanges-no-begin (rowTaken g s) Read (askedOf g)) (exchanges-no-begin (rowTaken g s) Write (askedOf g)))
     i (omega arith)
 
-plan-each : (g : Floor) (s v : ℕ) → Each (Delivers (nextRow g)) (planOf g s v)
+plan-each : (g : Floor) (s v : ℕ) → Each (Delivers (rowTaken g s)) (planOf g s v)
 unfolding exchangesOf
 plan-each g s v = (
-  delivers (nextRow g) (Begin s (roundOf g s) v) (λ x b q. cc),
-  each-append (Delivers (nextRow g)) (exchanges Read (nextRow g) (askedOf g)) _ (exchanges-deliver (nextRow g) Read (askedOf g)) (exchanges-deliver (nextRow g) Write (askedOf g)),
+  delivers (rowTaken g s) (Begin s (roundOf g s) v) (λ x b q. cc),
+  each-append (Delivers (rowTaken g s)) (exchanges Read (rowTaken g s) (askedOf g)) _ (exchanges-deliver (rowTaken g s) Read (askedOf g)) (exchanges-deliver (rowTaken g s) Write (askedOf g)),
 )
 
-pub plan-delivers : (g : Floor) (s v i : ℕ) → i < length (planOf g s v) → Delivers (nextRow g) (getD (planOf g s v) i [])
-plan-delivers g s v = each-at (Delivers (nextRow g)) (planOf g s v) (plan-each g s v)
+pub plan-delivers : (g : Floor) (s v i : ℕ) → i < length (planOf g s v) → Delivers (rowTaken g s) (getD (planOf g s v) i [])
+plan-delivers g s v = each-at (Delivers (rowTaken g s)) (planOf g s v) (plan-each g s v)

@@ -13,11 +13,11 @@ use Rattle.base.specs.Choice.{if_then_else_}
 use Rattle.base.specs.Bytes.{Bytes}
 use Rattle.base.specs.Records.{AllRecords}
 use Rattle.base.proofs.Choices.{on-true, on-false}
-use Rattle.register.specs.Register.{isHeld, rankIn, valueIn, rmwRead, rmwWrite}
+use Rattle.register.specs.Register.{registerOf, isHeld, rankIn, valueIn, rmwRead, rmwWrite}
 use Rattle.register.specs.declared.Register.{Register}
-use Rattle.register.specs.declared.StorageBox.{StorageBox}
 use Rattle.register.specs.declared.ReadDone.{ReadDone}
 use Rattle.register.specs.declared.WriteDone.{WriteDone}
+use Rattle.register.proofs.DepartmentLaws.{box-own}
 use Rattle.register.proofs.RegisterLaws.{outranked-kept, write-refused, write-answers}
 use Rattle.frames.specs.Claims.{ReadAs}
 use Rattle.frames.specs.Messages.{kindOf, frameOf}
@@ -39,10 +39,12 @@ use Rattle.commands.specs.Outcomes.{isRefused}
 use Rattle.commands.specs.declared.Command.{Command}
 use Rattle.commands.specs.declared.Command.the-variants.{Serve}
 use Rattle.commands.specs.declared.Outcome.the-variants as said
-use Rattle.attempts.specs.Rows.{answer0, answerOf, rowServed, registerServed}
+use Rattle.attempts.specs.Rows.{rowDepartment, answer0, answerOf, rowServed, registerServed}
 use Rattle.attempts.specs.declared.Answer.{Answer}
 use Rattle.attempts.specs.declared.Row.{Row}
-use Rattle.floor.specs.Floors.{boxAt, rowAt}
+use Rattle.floor.specs.Floors.{boxAt, rowAt, registerAt}
+use Rattle.floor.specs.Effects.{servedBy}
+use Rattle.floor.proofs.UseLaws.{in-use-most}
 use Rattle.floor.specs.Step.{stepOf}
 use Rattle.floor.specs.Runs.{floorAt, saidAt}
 use Rattle.floor.specs.Claims.{Sound, CanServe, ServedBy}
@@ -56,7 +58,7 @@ use Rattle.agreement.specs.Demand.{firstFloor}
 use Rattle.agreement.specs.Chain.{bytesAt, answerAt, InC, requestAt, answeredAt, FramedInC, ServedInC, Chain}
 use Rattle.agreement.proofs.History.{isIssued}
 use Rattle.agreement.proofs.Reach.{New, new-floor}
-use Rattle.agreement.proofs.Positions.{reached-at, means-at}
+use Rattle.agreement.proofs.Positions.{reached-at, lengths-at, means-at}
 use Rattle.agreement.proofs.Safety.{served-at}
 use Rattle.agreement.proofs.Standing.{sound-at}
 use Rattle.agreement.proofs.Widths.{FloorFits, fits-at, new-fits}
@@ -164,46 +166,50 @@ module _ (f : Floor) (l : List (List ℕ)) (new : New f) (z : Sound f) (a i : �
   b = x .box
 
   abbrev held : Register
-  held = boxAt g b .register
+  held = servedBy g a b
 
   rank-positive : ¬ (w .rank ≡ 0)
-  rank-positive q = omega (arith, reached-at f l new i .shows .rows a (x .may .used) .positive, q)
+  rank-positive q = omega (arith, reached-at f l new (rowDepartment a) i .shows .rows a (refl, x .may .used) .positive, q)
 
   place : b < 9
   place = omega (arith, x .may .box, sound-at f l new z i .box-most)
 
-  row-place : a < 64
-  row-place = omega (arith, x .may .used, sound-at f l new z i .rows-most)
+  row-place : a < 128
+  row-place = in-use-most g (sound-at f l new z i) a (x .may .used)
+
+  -- the box's next record for the attempt's department
+  stored : registerAt (floorAt f l (suc i)) (rowDepartment a) b ≡ registerServed (x .phase) w held
+  stored = ap (registerOf (rowDepartment a)) (x .storage) ∙ box-own (rowDepartment a) (boxAt g b) _ (boxAt g b .stopped)
 
   -- a read: the box's next register, the answer then on the way, and whether that is a yes
   module _ (q : x .phase ≡ Read) where
-    read-register : boxAt (floorAt f l (suc i)) b .register ≡ rmwRead held (w .rank) .register
-    read-register = ap (λ (y : StorageBox). y .register) (x .storage) ∙ ap (λ (p : Phase). registerServed p w held) q
+    read-register : registerAt (floorAt f l (suc i)) (rowDepartment a) b ≡ rmwRead held (w .rank) .register
+    read-register = stored ∙ ap (λ (p : Phase). registerServed p w held) q
 
     read-answer : answerAt f l a b (suc i) ≡ answerOf (rmwRead held (w .rank))
     read-answer =
         ap (λ (v : Row). getD (v .answers) b answer0) (x .row) ∙ ap (λ (p : Phase). getD (rowServed p w held b .answers) b answer0) q
-        ∙ getD-set-same (w .answers) b _ answer0 (omega (arith, place, reached-at f l new i .lengths .answers a row-place))
+        ∙ getD-set-same (w .answers) b _ answer0 (omega (arith, place, lengths-at f l new i .answers a row-place))
 
     read-ok : slotAt (rowAt (floorAt f l (suc i)) a .read) b .ok ≡ isHeld (rmwRead held (w .rank) .answer)
     read-ok =
         ap (λ (v : Row). slotAt (v .read) b .ok) (x .row) ∙ ap (λ (p : Phase). slotAt (rowServed p w held b .read) b .ok) q
-        ∙ ap (λ (v : Slot). v .ok) (getD-set-same (w .read .slots) b _ slot0 (omega (arith, place, reached-at f l new i .lengths .slots Read a row-place)))
+        ∙ ap (λ (v : Slot). v .ok) (getD-set-same (w .read .slots) b _ slot0 (omega (arith, place, lengths-at f l new i .slots Read a row-place)))
 
   -- the same of a write, whose revision is not 0
   module _ (q : x .phase ≡ Write) where
-    write-register : boxAt (floorAt f l (suc i)) b .register ≡ rmwWrite held (w .rank) (w .written) .register
-    write-register = ap (λ (y : StorageBox). y .register) (x .storage) ∙ ap (λ (p : Phase). registerServed p w held) q
+    write-register : registerAt (floorAt f l (suc i)) (rowDepartment a) b ≡ rmwWrite held (w .rank) (w .written) .register
+    write-register = stored ∙ ap (λ (p : Phase). registerServed p w held) q
 
     write-ok : slotAt (rowAt (floorAt f l (suc i)) a .write) b .ok ≡ rmwWrite held (w .rank) (w .written) .taken
     write-ok =
         ap (λ (v : Row). slotAt (v .write) b .ok) (x .row) ∙ ap (λ (p : Phase). slotAt (rowServed p w held b .write) b .ok) q
-        ∙ ap (λ (v : Slot). v .ok) (getD-set-same (w .write .slots) b _ slot0 (omega (arith, place, reached-at f l new i .lengths .slots Write a row-place)))
+        ∙ ap (λ (v : Slot). v .ok) (getD-set-same (w .write .slots) b _ slot0 (omega (arith, place, lengths-at f l new i .slots Write a row-place)))
 
     written-positive : ¬ (w .written ≡ 0)
     written-positive u =
         let waits = subst (λ (p : Phase). CanServe g p a b) q (x .may) .waits in
-        let issued = reached-at f l new i .shows .rows a (x .may .used) .writes .after-issue b (ap isIssued (waits-means (slotAt (w .write) b .stage) (w .write .heard) b waits .0)) in
+        let issued = reached-at f l new (rowDepartment a) i .shows .rows a (refl, x .may .used) .writes .after-issue b (ap isIssued (waits-means (slotAt (w .write) b .stage) (w .write .heard) b waits .0)) in
         omega (arith, issued, u)
 
   call : (p : Phase) → x .phase ≡ p → InC f l p (w .rank) a b i
@@ -227,7 +233,7 @@ module _ (f : Floor) (l : List (List ℕ)) (new : New f) (z : Sound f) (a i : �
   said-answer Read q = rw (read-ok q, read-answer q)
   said-answer Write q = rw (write-ok q)
 
-  framed : (p : Phase) → x .phase ≡ p → (behind buffer : List ℕ) → 12 ≤ length buffer → FramedInC f l (requestAt f l p (w .rank) a i) (answeredAt f l p a b (suc i)) b i behind buffer
+  framed : (p : Phase) → x .phase ≡ p → (behind buffer : List ℕ) → 12 ≤ length buffer → FramedInC f l (requestAt f l p (w .rank) a i) (answeredAt f l p a b (suc i)) a b i behind buffer
   framed Read q behind buffer h =
       let c = read-framed held (w .rank) rank-positive behind buffer h in
       rw (said-answer Read q) (record { returns = c .returns; changes = c .changes ∙ ap encode (sym (read-register q)); answers = c .answers })
@@ -235,25 +241,25 @@ module _ (f : Floor) (l : List (List ℕ)) (new : New f) (z : Sound f) (a i : �
       let c = write-framed held (w .rank) rank-positive behind buffer h (w .written) (written-positive q) in
       rw (said-answer Write q) (record { returns = c .returns; changes = c .changes ∙ ap encode (sym (write-register q)); answers = c .answers })
 
-  bytes : FloorFits f → (k : ℕ) → AllRecords l → Bytes (bytesAt f l b k)
-  bytes fits k y = encode-bytes _ (fits-at f l fits y k .boxes b)
+  bytes : FloorFits f → (k : ℕ) → AllRecords l → Bytes (bytesAt f l a b k)
+  bytes fits k y = encode-bytes _ (fits-at f l fits y k .boxes (rowDepartment a) b)
 
   served-in-c : FloorFits f → ServedInC f l (x .phase) a b i
   served-in-c fits = record {
     rank = w .rank;
-    served = served-at f l new i (w .rank) b (record { attempt = a; used = x .may .used; rank = refl; phase = x .phase; asked = x .command; accepted = e });
+    served = served-at f l new (rowDepartment a) i (w .rank) b (record { attempt = a; of = refl; used = x .may .used; rank = refl; phase = x .phase; asked = x .command; accepted = e });
     call = call (x .phase) refl;
     framed = framed (x .phase) refl;
     bytes = λ y. (bytes fits i y, bytes fits (suc i) y);
   }
 
 pub chain : Chain
-chain n m l p a b i c ok =
-    let f = firstFloor n m in
-    let new = new-floor n m in
+chain n m t l p a b i c ok =
+    let f = firstFloor n m t in
+    let new = new-floor n m t in
     let e = says-served p a b (subst (λ (d : Command). StepCase (floorAt f l i) d (stepOf (floorAt f l i) (getD l i []))) c (step-case (floorAt f l i) (getD l i []))) ok in
     let x = means-at f l new i (said.Served a) e in
     let q : Serve p a b ≡ Serve (x .phase) a (x .box) = sym c ∙ x .command in
     let eb : x .box ≡ b = cc in
     let ep : x .phase ≡ p = cc in
-    subst (λ (y : ℕ). ServedInC f l p a y i) eb (subst (λ (y : Phase). ServedInC f l y a (x .box) i) ep (served-in-c f l new (new-sound n m) a i e (new-fits n m)))
+    subst (λ (y : ℕ). ServedInC f l p a y i) eb (subst (λ (y : Phase). ServedInC f l y a (x .box) i) ep (served-in-c f l new (new-sound n m t) a i e (new-fits n m t)))

@@ -10,7 +10,8 @@ use lib.ListN.{length, getD, List·getD-eq-default}
 use borrow.Author.Tests.{lt-leb}
 use Rattle.base.specs.Choice.{if_then_else_}
 use Rattle.base.proofs.Choices.{on-true, on-false}
-use Rattle.floor.specs.Floors.{stationAt}
+use Rattle.register.specs.declared.Department.{Department}
+use Rattle.floor.specs.Floors.{stationAt, departmentAt}
 use Rattle.requests.specs.declared.Phase.{Phase}
 use Rattle.requests.specs.declared.Phase.the-variants.{Read, Write}
 use Rattle.attempts.specs.Stations.{isGone, isBusy, isIn}
@@ -34,14 +35,14 @@ use Rattle.floor.proofs.StepLaws.{apply-refused}
 use Rattle.floor.proofs.StepCases.{StepCase, turned, step-case}
 use Rattle.floor.proofs.Keeps.{new-sound}
 use Rattle.floor.proofs.Moves.{apply-station}
-use Rattle.agreement.specs.Words.{commandAt, DecidesAt, shownAt}
+use Rattle.agreement.specs.Words.{commandAt, attemptDepartment, DecidesAt, DecidedIn, shownAt}
 use Rattle.floor.specs.Runs.{floorAt, saidAt}
 use Rattle.agreement.specs.Demand.{firstFloor}
 use Rattle.agreement.specs.Consequences.{Consequences}
 use Rattle.agreement.proofs.Reach.{New, new-floor}
 use Rattle.agreement.proofs.Positions.{means-at}
-use Rattle.agreement.proofs.Safety.{agreement, decision-of, decider-at, shown-decided, shown-still}
-use Rattle.agreement.proofs.Standing.{stations-at, sound-at}
+use Rattle.agreement.proofs.Safety.{agreement, decided-in, decision-of, decider-at, shown-decided, shown-still}
+use Rattle.agreement.proofs.Standing.{own-department, stations-at, sound-at}
 
 -- a record with no bytes is malformed
 no-bytes : commandOf [] ≡ Malformed
@@ -129,8 +130,14 @@ module _ (f : Floor) (l : List (List ℕ)) (new : New f) where
     | inr q ↦ over-stays (apply-station (floorAt f l i) (commandAt l i) s) (gone-since s k i e q)
   ]
 
+  -- two decisions of a station are in one department
+  same-department : (s u v i k : ℕ) → DecidesAt f l s u i → (d : DecidesAt f l s v k) → DecidedIn f l (attemptDepartment f l (d .attempt)) u i
+  same-department s u v i k x d =
+      let e = own-department f l new (x .attempt) ∙ ap (departmentAt f) (x .station ∙ sym (d .station)) ∙ sym (own-department f l new (d .attempt)) in
+      subst (λ (y : Department). DecidedIn f l y u i) e (decided-in f l new s u i x)
+
   stays : (s v k i : ℕ) → DecidesAt f l s v k → k < i → shownAt f l s i ≡ v
-  stays s v k i d h = let x = shown-decided f l new s i (shown-still f l new s v k i d h) in agreement f l new (x .at) k _ v (x .holds .accepted) (d .accepted)
+  stays s v k i d h = let x = shown-decided f l new s i (shown-still f l new s v k i d h) in agreement f l new (attemptDepartment f l (d .attempt)) (x .at) k _ v (same-department s _ v (x .at) k (x .holds) d) (decided-in f l new s v k d)
 
   over : Sound f → (s v k i round u : ℕ) → DecidesAt f l s v k → k < i → commandAt l i ≡ Begin s round u
       → (saidAt f l i ≡ said.Refused 9) ⊎ (saidAt f l i ≡ said.Refused 10)
@@ -139,10 +146,10 @@ module _ (f : Floor) (l : List (List ℕ)) (new : New f) where
       subst (λ (c : Command). (applyOf (floorAt f l i) c .outcome ≡ said.Refused 9) ⊎ (applyOf (floorAt f l i) c .outcome ≡ said.Refused 10)) (sym e)
       (begin-over (floorAt f l i) (sound-at f l new z i) s round u (omega (arith, station-below z s v k d, stations-at f l new i)) _ refl (over-since s v k i d h))
 
-pub consequences : (n m : ℕ) (l : List (List ℕ)) → Consequences n m l
-consequences n m l = let f = firstFloor n m in let new = new-floor n m in record {
+pub consequences : (n m : ℕ) (departments : List ℕ) (l : List (List ℕ)) → Consequences (firstFloor n m departments) l
+consequences n m t l = let f = firstFloor n m t in let new = new-floor n m t in let z = new-sound n m t in record {
   inside = inside f l new;
-  station = λ i v e. let d = decision-of f l new i v e in (d .0, station-below f l new (new-sound n m) (d .0) v i (d .1), d .1);
+  station = λ i v e. let d = decision-of f l new i v e in (d .0, station-below f l new z (d .0) v i (d .1), d .1);
   stays = stays f l new;
-  over = over f l new (new-sound n m);
+  over = over f l new z;
 }

@@ -10,7 +10,9 @@ use Rattle.protocol.specs.Trace.{nack, took, refused, note, other-event}
 use Rattle.requests.specs.Requests.{atQuorum, allYes}
 use Rattle.requests.specs.declared.Phase.{Phase}
 use Rattle.requests.specs.declared.Phase.the-variants.{Read, Write}
+use Rattle.attempts.specs.Rows.{rowDepartment}
 use Rattle.floor.specs.Floors.{rowAt, ownerAt}
+use Rattle.floor.specs.Departments.{Owned}
 use Rattle.attempts.specs.Stations.{isWriting, withState}
 use Rattle.floor.specs.Claims.{Sound, Lengths, CanDeliver}
 use Rattle.attempts.specs.declared.State.the-variants.{Idle}
@@ -23,18 +25,18 @@ use Rattle.agreement.proofs.History.{quiet, History, RowShows, Shows, r
 use Rattle.agreement.proofs.Serves.{StepTo}
 use Rattle.agreement.proofs.Deliveries.{viewOf, heard-shows, owner-writes, row-moved}
 
-module _ {f : Floor} {l : History} (s : Shows f l) (a b : ℕ) (d : CanDeliver f Write a b) where
+module _ {f : Floor} {l : History} (a b : ℕ) (s : Shows (rowDepartment a) f l) (o : Owned f) (d : CanDeliver f Write a b) where
   abbrev w : Row
   w = heardRow f Write a b
 
   shown : RowShows w l
-  shown = heard-shows s Write a b d
+  shown = heard-shows Write a b s d
 
   -- a revision that is decided was chosen
   pub decision-chosen : isWriting (ownerAt f a .state) a ≡ true → atQuorum (w .write) (f .n) ≡ true → allYes (w .write) (f .n) ≡ true
-      → Chosen (f .n) (viewOf f l) (rowAt f a .rank) (rowAt f a .written)
+      → Chosen (f .n) (viewOf (rowDepartment a) f l) (rowAt f a .rank) (rowAt f a .written)
   decision-chosen r q t = record {
-    issued = shown .writes .issue (owner-writes s a (d .used) r);
+    issued = shown .writes .issue (owner-writes a s o (d .used) r);
     taken = quorum-majority (w .write) (f .n) q (λ c h m. shown .writes .taken c (shown .writes .received c m) (yes-means (w .write) (f .n) t c h m));
   }
 
@@ -42,29 +44,30 @@ module _ {f : Floor} {l : History} (s : Shows f l) (a b : ℕ) (d : CanDeliver f
   pub abort-refused : allYes (w .write) (f .n) ≡ false → (c : ℕ) × List·Memᴰ (refused (rowAt f a .rank) c) l × (¬ List·Memᴰ (took (rowAt f a .rank) c) l)
   abort-refused t =
       let m = yes-not (w .write) (f .n) t in
-      (m .0, shown .writes .refusal (m .0) (shown .writes .received (m .0) (m .2)) (m .3), λ o. clash (shown .writes .only (m .0) o .1) (m .3))
+      (m .0, shown .writes .refusal (m .0) (shown .writes .received (m .0) (m .2)) (m .3), λ i. clash (shown .writes .only (m .0) i .1) (m .3))
 
 -- one that aborts with its reads: a box told that it is outranked
-pub abort-told : {f : Floor} {l : History} → Shows f l → (a b : ℕ) → CanDeliver f Read a b → allYes (heardRow f Read a b .read) (f .n) ≡ false
+pub abort-told : {f : Floor} {l : History} (a b : ℕ) → Shows (rowDepartment a) f l → CanDeliver f Read a b → allYes (heardRow f Read a b .read) (f .n) ≡ false
     → (c : ℕ) × List·Memᴰ (nack (rowAt f a .rank) c) l
-abort-told {f} s a b d t =
+abort-told {f} a b s d t =
     let w = heardRow f Read a b in
-    let r = heard-shows s Read a b d .reads in
+    let r = heard-shows Read a b s d .reads in
     let m = yes-not (w .read) (f .n) t in
     (m .0, r .told (m .0) (r .received (m .0) (m .2)) (m .3))
 
 -- what it leads to
-module _ {f : Floor} {l : History} (s : Shows f l) (y : Lengths f) (z : Sound f) (a b : ℕ) (d : CanDeliver f Write a b) where
-  pub decision-step : isWriting (ownerAt f a .state) a ≡ true → StepTo f l (afterDecision f a (heardRow f Write a b)) (note quiet)
+module _ {f : Floor} {l : History} (a b : ℕ) (s : Shows (rowDepartment a) f l) (o : Owned f) (y : Lengths f) (z : Sound f) (d : CanDeliver f Write a b) where
+  pub decision-step : isWriting (ownerAt f a .state) a ≡ true → StepTo (rowDepartment a) f l (afterDecision f a (heardRow f Write a b)) (note quiet)
   decision-step r = record {
     step = other-event (λ j. refl);
-    shows = row-moved s y z a (d .used) (heardRow f Write a b) refl (decider f a (heardRow f Write a b)) refl (note quiet) (λ k e. absurd (omega arith))
-        (row-more (note quiet) (λ e. omega arith) (shown s a b d)) (owner-writes s a (d .used) r);
+    shows = row-moved a s o y z (d .used) (heardRow f Write a b) refl (decider f a (heardRow f Write a b)) (refl, refl) (note quiet) (λ k e. absurd (omega arith))
+        (row-more (note quiet) (λ e. omega arith) (shown a b s o d)) (owner-writes a s o (d .used) r);
   }
 
-pub abort-step : {f : Floor} {l : History} → Shows f l → Lengths f → Sound f → (p : Phase) (a b : ℕ) → CanDeliver f p a b → StepTo f l (afterAbort f a (heardRow f p a b)) (note quiet)
-abort-step {f} s y z p a b d = record {
+pub abort-step : {f : Floor} {l : History} (p : Phase) (a b : ℕ) → Shows (rowDepartment a) f l → Owned f → Lengths f → Sound f → CanDeliver f p a b
+    → StepTo (rowDepartment a) f l (afterAbort f a (heardRow f p a b)) (note quiet)
+abort-step {f} p a b s o y z d = record {
   step = other-event (λ j. refl);
-  shows = row-moved s y z a (d .used) (heardRow f p a b) refl (withState (ownerAt f a) Idle) refl (note quiet) (λ k e. absurd (omega arith))
-      (row-more (note quiet) (λ e. omega arith) (heard-shows s p a b d)) tt;
+  shows = row-moved a s o y z (d .used) (heardRow f p a b) refl (withState (ownerAt f a) Idle) (refl, refl) (note quiet) (λ k e. absurd (omega arith))
+      (row-more (note quiet) (λ e. omega arith) (heard-shows p a b s d)) tt;
 }

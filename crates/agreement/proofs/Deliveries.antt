@@ -1,6 +1,5 @@
 -- A delivery of an answer: the row that it leaves, and the floor with that row, and with its station where that changes.
 use Prim.Native.Nat.{ℕ, suc, _<_}
-use native.Mathlib.Nat.{le-refl}
 use native.Mathlib.Omega.{arith}
 use mathlib.Core.Path.{_≡_, refl, sym, ap, subst}
 use mathlib.Core.Bool.{true}
@@ -12,8 +11,11 @@ use Rattle.base.proofs.MaskLaws.{added}
 use Rattle.requests.specs.Requests.{slotAt}
 use Rattle.requests.specs.declared.Phase.{Phase}
 use Rattle.requests.specs.declared.Phase.the-variants.{Read, Write}
-use Rattle.floor.specs.Floors.{stationAt, rowAt, withStation, withRow, ownerAt}
-use Rattle.attempts.specs.Rows.{requestsOf, rowHeard}
+use Rattle.register.specs.declared.Department.{Department}
+use Rattle.floor.specs.Floors.{stationAt, rowAt, InUse, withStation, withRow, ownerAt}
+use Rattle.floor.specs.Departments.{Owned}
+use Rattle.floor.proofs.UseLaws.{in-use-most}
+use Rattle.attempts.specs.Rows.{rowDepartment, requestsOf, rowHeard}
 use Rattle.attempts.specs.Stations.{isReading, isWriting}
 use Rattle.floor.specs.Claims.{Sound, Lengths, CanDeliver}
 use Rattle.attempts.specs.declared.State.{State}
@@ -24,12 +26,12 @@ use Rattle.floor.specs.declared.Floor.{Floor}
 use Rattle.attempts.proofs.StationTests.{is-reading, is-writing}
 use Rattle.requests.proofs.Standings.{arrives-means}
 use Rattle.floor.specs.Effects.{heardRow}
-use Rattle.agreement.proofs.History.{quiet, Happening, History, Offered, registersOf, writerOf, isAnswered, RowShows, StationShows, station-kept-by, stations-stored, last-stored, Shows, row-more, shows-stored}
+use Rattle.agreement.proofs.History.{UsedBy, SameStation, station-same, quiet, Happening, History, Offered, registersOf, writerOf, isAnswered, RowShows, StationShows, station-kept-by, stations-stored, Shows, row-more, shows-stored}
 use Rattle.agreement.proofs.Serves.{StepTo, stations-kept}
 
 -- what has happened, as the theory sees it
-abbrev pub viewOf : Floor → History → View ℕ
-viewOf f l = view Offered (registersOf f) l
+abbrev pub viewOf : Department → Floor → History → View ℕ
+viewOf d f l = view Offered (registersOf d f) l
 
 -- the answer of the box b is received
 heard-row : {w : Row} {l : History} → RowShows w l → (p : Phase) (b : ℕ) → isAnswered (slotAt (requestsOf p w) b .stage) ≡ true → RowShows (rowHeard p w b) l
@@ -64,16 +66,16 @@ heard-row {w} r Write b h = record {
 }
 
 -- .. by an accepted delivery
-pub heard-shows : {f : Floor} {l : History} → Shows f l → (p : Phase) (a b : ℕ) → CanDeliver f p a b → RowShows (heardRow f p a b) l
-heard-shows {f} s p a b d = let h = requestsOf p (rowAt f a) in heard-row (s .rows a (d .used)) p b (ap isAnswered (arrives-means (slotAt h b .stage) (h .heard) b (d .arrives) .0))
+pub heard-shows : {f : Floor} {l : History} (p : Phase) (a b : ℕ) → Shows (rowDepartment a) f l → CanDeliver f p a b → RowShows (heardRow f p a b) l
+heard-shows {f} p a b s d = let h = requestsOf p (rowAt f a) in heard-row (s .rows a (refl, d .used)) p b (ap isAnswered (arrives-means (slotAt h b .stage) (h .heard) b (d .arrives) .0))
 
 -- a row in use: the place of its station, and what is known of it where that station is in the attempt
-module _ {f : Floor} {l : History} (s : Shows f l) (a : ℕ) (ha : a < f .used) where
+module _ {f : Floor} {l : History} (a : ℕ) (s : Shows (rowDepartment a) f l) (o : Owned f) (ha : InUse f a) where
   place : rowAt f a .station < 16
-  place = omega (arith, s .rows a ha .place)
+  place = omega (arith, s .rows a (refl, ha) .place)
 
-  owner-shows : (p : State) → ownerAt f a .state ≡ p → StationShows (f .used) (f .rows) (rowAt f a .station) (ownerAt f a .decided) p
-  owner-shows p e = subst (StationShows (f .used) (f .rows) (rowAt f a .station) (ownerAt f a .decided)) e (s .stations (rowAt f a .station))
+  owner-shows : (p : State) → ownerAt f a .state ≡ p → StationShows (UsedBy (rowDepartment a) f) (f .rows) (rowAt f a .station) (ownerAt f a .decided) p
+  owner-shows p e = subst (StationShows (UsedBy (rowDepartment a) f) (f .rows) (rowAt f a .station) (ownerAt f a .decided)) e (s .stations (rowAt f a .station) (o a ha))
 
   pub owner-reads : isReading (ownerAt f a .state) a ≡ true → rowAt f a .written ≡ 0
   owner-reads e = owner-shows (Reading a) (is-reading (ownerAt f a .state) a e) .2
@@ -81,26 +83,33 @@ module _ {f : Floor} {l : History} (s : Shows f l) (a : ℕ) (ha : a < f .used) 
   pub owner-writes : isWriting (ownerAt f a .state) a ≡ true → 0 < rowAt f a .written
   owner-writes e = owner-shows (Writing a) (is-writing (ownerAt f a .state) a e) .2
 
-module _ {f : Floor} {l : History} (s : Shows f l) (y : Lengths f) (z : Sound f) (a : ℕ) (ha : a < f .used) where
+module _ {f : Floor} {l : History} (a : ℕ) (s : Shows (rowDepartment a) f l) (o : Owned f) (y : Lengths f) (z : Sound f) (ha : InUse f a) where
+  abbrev own : Department
+  own = rowDepartment a
+
+  abbrev Used : ℕ → Type 0
+  Used = UsedBy own f
+
   -- row a becomes w, which shows the same history, and nothing is noted
-  row-heard : (w : Row) → w .rank ≡ rowAt f a .rank → w .station ≡ rowAt f a .station → w .written ≡ rowAt f a .written → RowShows w l → StepTo f l (withRow f a w) (note quiet)
+  row-heard : (w : Row) → w .rank ≡ rowAt f a .rank → w .station ≡ rowAt f a .station → w .written ≡ rowAt f a .written → RowShows w l → StepTo own f l (withRow f a w) (note quiet)
   row-heard w p q v r = record {
     step = other-event (λ j. refl);
-    shows = shows-stored s (note quiet) (f .boxes) (f .stations) (s .paired) (λ j. refl)
-        y a ha (z .rows-most) w p (λ k e. absurd (omega arith)) (row-more (note quiet) (λ e. omega arith) r) (stations-kept s a w q v);
+    shows = shows-stored s (note quiet) (f .boxes) (f .stations) (s .paired) (λ j. (refl, refl))
+        y a (refl, ha) (in-use-most f z a ha) w p (λ k e. absurd (omega arith)) (row-more (note quiet) (λ e. omega arith) r) (stations-kept s a w q v);
   }
 
-  -- row a becomes w, and its station t, with the same last round
-  module _ (w : Row) (rank : w .rank ≡ rowAt f a .rank) (t : Station) (last : t .last ≡ ownerAt f a .last) where
+  -- row a becomes w, and its station t, with the same last round and department
+  module _ (w : Row) (rank : w .rank ≡ rowAt f a .rank) (t : Station) (same : SameStation (ownerAt f a) t) where
     pub row-moved : (e : Happening) → ((r : ℕ) → writerOf e ≡ suc r → r ≡ rowAt f a .rank) → RowShows w (e ∷ l)
-        → StationShows (f .used) (set (f .rows) a w) (rowAt f a .station) (t .decided) (t .state)
-        → Shows (withStation (withRow f a w) (rowAt f a .station) t) (e ∷ l)
-    row-moved e own r seat =
-        shows-stored s e (f .boxes) _ (s .paired) (last-stored (f .stations) (rowAt f a .station) t last) y a ha (z .rows-most) w rank own r
-        (stations-stored (f .used) (set (f .rows) a w) (f .stations) (rowAt f a .station) t (omega (arith, y .stations, place s a ha))
-        (λ j p. station-kept-by (f .used) (f .used) (f .rows) a w j (stationAt f j .decided) (le-refl (f .used)) (stationAt f j .state) (λ _ _ h. absurd (p (sym h))) (s .stations j))
-        seat)
+        → StationShows Used (set (f .rows) a w) (rowAt f a .station) (t .decided) (t .state)
+        → Shows own (withStation (withRow f a w) (rowAt f a .station) t) (e ∷ l)
+    row-moved e wrote r seat =
+        shows-stored s e (f .boxes) _ (s .paired) (station-same (f .stations) (rowAt f a .station) t same) y a (refl, ha) (in-use-most f z a ha) w rank wrote r
+        (stations-stored own Used (set (f .rows) a w) (f .stations) (rowAt f a .station) t (omega (arith, y .stations, place a s o ha))
+        (λ j p q. station-kept-by Used Used (f .rows) a w j (stationAt f j .decided) (λ i h. h) (stationAt f j .state) (λ _ _ h. absurd (p (sym h))) (s .stations j q))
+        (λ _. seat))
 
 -- an answer is received without effect
-pub heard-step : {f : Floor} {l : History} → Shows f l → Lengths f → Sound f → (p : Phase) (a b : ℕ) → CanDeliver f p a b → StepTo f l (withRow f a (heardRow f p a b)) (note quiet)
-heard-step {f} s y z p a b d = row-heard s y z a (d .used) (heardRow f p a b) refl refl refl (heard-shows s p a b d)
+pub heard-step : {f : Floor} {l : History} (p : Phase) (a b : ℕ) → Shows (rowDepartment a) f l → Owned f → Lengths f → Sound f → CanDeliver f p a b
+    → StepTo (rowDepartment a) f l (withRow f a (heardRow f p a b)) (note quiet)
+heard-step {f} p a b s o y z d = row-heard a s o y z (d .used) (heardRow f p a b) refl refl refl (heard-shows p a b s d)

@@ -1,4 +1,4 @@
--- Demand 3, for every list of records and any n and m.
+-- Demand 3, for every list of records and any n, m and departments.
 use Prim.Native.Nat.{ℕ, zero, suc, _+_, _≤_, _<_}
 use native.Mathlib.Nat.{add-zero}
 use native.Mathlib.Omega.{arith}
@@ -14,7 +14,7 @@ use Rattle.commands.specs.Commands.{commandOf}
 use Rattle.commands.specs.Outcomes.{isRefused}
 use Rattle.floor.specs.Step.{stepOf}
 use Rattle.attempts.specs.declared.Row.{Row}
-use Rattle.floor.specs.Free.{nextRow}
+use Rattle.floor.specs.Effects.{rowTaken}
 use Rattle.floor.specs.declared.Floor.{Floor}
 use Rattle.floor.specs.declared.Stepped.{Stepped}
 use Rattle.commands.specs.declared.Command.{Command}
@@ -40,25 +40,26 @@ use Rattle.floor.specs.Runs.{floorAt, floorLeft, saidAt}
 use Rattle.agreement.specs.Demand.{firstFloor, DrivenAlone, Demand3Theorem}
 use Rattle.agreement.proofs.Reach.{New, new-floor}
 use Rattle.agreement.proofs.Positions.{size-at, means-at}
-use Rattle.agreement.proofs.Safety.{decides-at, safety}
+use Rattle.agreement.proofs.Safety.{decides-at, shown, safety}
+use Rattle.agreement.proofs.Standing.{department-at, own-department}
 use Rattle.floor.proofs.ListLaws.{floor-behind, said-behind, left-behind, said-taken, left-taken}
 use Rattle.agreement.proofs.Alone.{ready, plan-delivers, NoBegin, plan-no-begin}
 
 -- the row that an accepted begin takes is its station's
 begun-row : {f : Floor} {st : Stepped} (s round v : ℕ) → Lengths f → StepCase f (Begin s round v) st → isRefused (st .outcome) ≡ false
-    → rowAt (st .floor) (nextRow f) .station ≡ s
+    → rowAt (st .floor) (rowTaken f s) .station ≡ s
 unfolding newRow
 begun-row s r v y (turned k t) e = clash refl e
-begun-row {f} s r v y (began z d) e = ap (λ (w : Row). w .station) (row-stored f y z (nextRow f) (newRow (f .n) s r v) (d .row))
+begun-row {f} s r v y (began z d) e = ap (λ (w : Row). w .station) (row-stored f y z (rowTaken f s) (newRow (f .n) s r v) (d .row))
 
 -- a list that starts with an accepted begin, and has no other: the row that it took stays its station's
 module _ (g : Floor) (y : Lengths g) (l : List (List ℕ)) (s round v : ℕ) (first : commandAt l 0 ≡ Begin s round v) (ok : isRefused (saidAt g l 0) ≡ false)
     (rest : (i : ℕ) → suc i < length l → NoBegin (getD l (suc i) [])) where
-  own-row : (i : ℕ) → i < length l → rowAt (floorAt g l (suc i)) (nextRow g) .station ≡ s
+  own-row : (i : ℕ) → i < length l → rowAt (floorAt g l (suc i)) (rowTaken g s) .station ≡ s
   unfolding floorAt stepOf
   own-row zero h = begun-row s round v y (subst (λ (c : Command). StepCase g c (stepOf g (getD l 0 []))) first (step-case g (getD l 0 []))) ok
   own-row (suc i) h =
-      row-same (floorAt g l (suc i)) (commandAt l (suc i)) (nextRow g) (apply-not-begun (floorAt g l (suc i)) (commandAt l (suc i)) (rest i h) (nextRow g)) .station
+      row-same (floorAt g l (suc i)) (commandAt l (suc i)) (rowTaken g s) (apply-not-begun (floorAt g l (suc i)) (commandAt l (suc i)) (rest i h) (rowTaken g s)) .station
       ∙ own-row i (omega arith)
 
 module _ (f : Floor) (l : List (List ℕ)) (new : New f) (s v : ℕ) (y : Lawful (floorLeft f l)) (x : Ready (floorLeft f l) s v) (h : v < 4294967296) where
@@ -114,7 +115,7 @@ module _ (f : Floor) (l : List (List ℕ)) (new : New f) (s v : ℕ) (y : Lawful
       let a = plan-delivers g s v i (p .0) (m .attempt) (m .box) (ap commandOf (sym r) ∙ m .answer .command) in
       decides-at f (l ++ steps) new (length l + i) s (decided-steps .revision) (m .attempt) (m .box) (m .answer .command) (m .answer .may .used) (own i q (m .attempt) a) e
     where
-      own : (i : ℕ) → suc i ≡ length steps → (a : ℕ) → a ≡ nextRow g → rowAt (floorAt f (l ++ steps) (length l + i)) a .station ≡ s
+      own : (i : ℕ) → suc i ≡ length steps → (a : ℕ) → a ≡ rowTaken g s → rowAt (floorAt f (l ++ steps) (length l + i)) a .station ≡ s
       own zero q a e = absurd (omega (arith, some))
       own (suc i) q a e =
           rw (floor-behind f l steps (suc i), e) (own-row g (y .lengths) steps s (roundOf g s) v first-step (accepted 0 (omega (arith, some))) rest-steps i (omega (arith, q)))
@@ -135,8 +136,11 @@ module _ (f : Floor) (l : List (List ℕ)) (new : New f) (s v : ℕ) (y : Lawful
   }
 
 pub demand3 : Demand3Theorem
-demand3 n m l = let f = firstFloor n m in let new = new-floor n m in record {
-  safety = safety n m l;
+demand3 n m t l = let f = firstFloor n m t in let new = new-floor n m t in record {
+  safety = safety f l new;
+  shown = shown f l new;
+  own = own-department f l new;
+  kept = department-at f l new;
   solo = λ s v place idle boxes row round offer h.
-      alone f l new s v (after-lawful f l (length l) (new-lawful n m)) (ready f l new (new-sound n m) s v (length l) place idle (at-least-map (omega arith) (λ b a. a) boxes) row round (omega arith)) (omega arith);
+      alone f l new s v (after-lawful f l (length l) (new-lawful n m t)) (ready f l new (new-sound n m t) s v (length l) place idle (at-least-map (omega arith) (λ b a. a) boxes) row round (omega arith)) (omega arith);
 }

@@ -3,33 +3,33 @@ use Prim.Native.Nat.{ℕ, _<_}
 use native.Mathlib.Omega.{arith}
 use native.Mathlib.Decide.{ℕ-discrete}
 use mathlib.Core.Path.{_≡_, sym, ap, subst, _∙_}
-use mathlib.Core.List.{List}
+use mathlib.Core.List.{List, []}
 use lib.ListN.{length}
 use lib.Seq.{length-take-le}
-use Rattle.floor.specs.Floors.{stationAt, emptyFloor}
-use Rattle.attempts.specs.Stations.{station0}
+use Rattle.register.specs.declared.Department.{Department}
+use Rattle.floor.specs.Floors.{stationAt, departmentAt, emptyFloor}
+use Rattle.floor.proofs.Keeps.{told-at}
 use Rattle.floor.specs.Runs.{floorLeft}
 use Rattle.floor.specs.Claims.{PlayedOver}
-use Rattle.base.proofs.Stores.{getD-same}
 use Rattle.floor.specs.declared.Floor.{Floor}
 use Rattle.attempts.specs.declared.Station.{Station}
 use Rattle.drill_file.specs.DrillFile.{boxesOf, stationsOf, fileRefusal, recordsOf}
-use Rattle.player.specs.Play.{playedOf}
+use Rattle.player.specs.Play.{toldIn, playedOf}
 use Rattle.player.proofs.PlayLaws.{played-refused, player-claims}
 use Rattle.floor.specs.declared.Played.{Played}
-use Rattle.agreement.specs.Words.{Before, DecidesAt}
-use Rattle.agreement.specs.Demand.{firstFloor, Safety}
-use Rattle.agreement.specs.Files.{decidedIn, acceptedIn, PlayedFile}
+use Rattle.agreement.specs.Words.{Before, DecidesAt, DecidedIn}
+use Rattle.agreement.specs.Demand.{Demand3}
+use Rattle.agreement.specs.Files.{decidedIn, startOf, departmentIn, acceptedIn, PlayedFile}
 use Rattle.floor.proofs.ListLaws.{left-taken}
-use Rattle.agreement.proofs.Safety.{safety}
+use Rattle.agreement.proofs.Demand.{demand3}
 
 -- the floor of one box and one station has decided nothing
-none-decided : (t : ℕ) → stationAt (emptyFloor 1 1) t .decided ≡ 0
-none-decided t = ap (λ (x : Station). x .decided) (getD-same 16 t station0)
+none-decided : (t : ℕ) → stationAt (emptyFloor 1 1 []) t .decided ≡ 0
+none-decided t = ap (λ (x : Station). x .decided) (told-at [] 0 t)
 
 refused-file : (s : List ℕ) → ¬ (fileRefusal s ≡ 0) → PlayedFile s
 refused-file s e =
-    record { agreement = λ t u h _. absurd (nothing t h); validity = λ t h. absurd (nothing t h) }
+    record { agreement = λ t u _ h _. absurd (nothing t h); validity = λ t h. absurd (nothing t h) }
   where
     nothing : (t : ℕ) → 0 < decidedIn s t → ⊥
     nothing t h =
@@ -38,7 +38,7 @@ refused-file s e =
 
 module _ (s : List ℕ) (e : fileRefusal s ≡ 0) where
   abbrev first : Floor
-  first = firstFloor (boxesOf s) (stationsOf s)
+  first = startOf s
 
   over : PlayedOver first (recordsOf s) (playedOf s)
   over = player-claims .accepted s e
@@ -49,24 +49,35 @@ module _ (s : List ℕ) (e : fileRefusal s ≡ 0) where
   left : playedOf s .floor ≡ floorLeft first (acceptedIn s)
   left = over .left ∙ sym (left-taken first (recordsOf s) (playedOf s .accepted) (over .within))
 
-  safe : Safety (boxesOf s) (stationsOf s) (acceptedIn s)
-  safe = safety (boxesOf s) (stationsOf s) (acceptedIn s)
+  safe : Demand3 first (acceptedIn s)
+  safe = demand3 (boxesOf s) (stationsOf s) (toldIn s) (acceptedIn s)
 
   decides : (t : ℕ) → 0 < decidedIn s t → Before (DecidesAt first (acceptedIn s) t (decidedIn s t)) (length (acceptedIn s))
   decides t =
       subst (λ (g : Floor). 0 < stationAt g t .decided → Before (DecidesAt first (acceptedIn s) t (stationAt g t .decided)) (length (acceptedIn s))) (sym left)
       (safe .shown t (length (acceptedIn s)) .decided)
 
+  -- what a station decided was decided in its department
+  decided : (t v i : ℕ) → DecidesAt first (acceptedIn s) t v i → DecidedIn first (acceptedIn s) (departmentIn s t) v i
+  decided t v i x = record {
+    number = x .attempt .number;
+    box = x .box;
+    of = safe .own (x .attempt) ∙ ap (departmentAt first) (x .station);
+    asked = x .asked;
+    accepted = x .accepted;
+  }
+
   accepted-file : PlayedFile s
   accepted-file =
       record {
-        agreement = λ t u h i.
+        agreement = λ t u e h i.
             let x = decides t h in
             let y = decides u i in
-            safe .agreement (x .at) (y .at) _ _ (x .holds .accepted) (y .holds .accepted);
+            safe .safety (departmentIn s u) .agreement (x .at) (y .at) _ _
+            (subst (λ (d : Department). DecidedIn first (acceptedIn s) d (decidedIn s t) (x .at)) e (decided t _ (x .at) (x .holds))) (decided u _ (y .at) (y .holds));
         validity = λ t h.
             let x = decides t h in
-            let y = safe .validity (x .at) _ (x .holds .accepted) in
+            let y = safe .safety (departmentIn s t) .validity (x .at) _ (decided t _ (x .at) (x .holds)) in
             let earlier = y .earlier in
             let before = x .earlier in
             (y .at, omega (arith, size), y .holds);

@@ -9,7 +9,7 @@ use lib.ListN.{length}
 use lib.Seq.{getD-set-same}
 use borrow.Author.Tests.{eqb-true, eq-eqb}
 use Rattle.base.proofs.Cases.{clash, not-true-false, up-to}
-use Rattle.base.proofs.Choices.{on-true, by-test}
+use Rattle.base.proofs.Choices.{by-test}
 use Rattle.base.proofs.MaskLaws.{bit-zero}
 use Rattle.base.proofs.Stores.{getD-same}
 use Rattle.requests.specs.Requests.{Standing, notIssued, waiting, onTheWay, received, slot0, noneIssued, standing, notReceived, standingOf, isWaiting, issuedTo, servedAt, heardFrom}
@@ -21,32 +21,36 @@ use Rattle.requests.specs.declared.Stage.{Stage}
 use Rattle.requests.specs.declared.Stage.the-variants.{Answered}
 use Rattle.requests.proofs.Claims.{request-claims}
 use Rattle.register.specs.declared.Register.{Register}
-use Rattle.commands.specs.Outcomes.{isRefused, isBegun}
+use Rattle.commands.specs.Outcomes.{isRefused}
 use Rattle.commands.specs.declared.Command.the-variants.{Begin, Deliver}
 use Rattle.commands.specs.declared.Outcome.{Outcome}
 use Rattle.commands.specs.declared.Outcome.the-variants as said
 use Rattle.attempts.specs.Stations.{isActive, isReading, isIn}
-use Rattle.attempts.specs.Rows.{requestsOf, newRow, usedAfter, rowServed, issued}
+use Rattle.register.specs.declared.Department.{Department}
+use Rattle.attempts.specs.Rows.{requestsOf, newRow, rowServed, issued}
+use Rattle.attempts.proofs.RowDepartments.{first-most}
 use Rattle.attempts.specs.declared.State.{State}
 use Rattle.attempts.specs.declared.State.the-variants.{Idle, Reading, Writing, Decided, Gone}
 use Rattle.attempts.specs.declared.Station.{Station}
 use Rattle.attempts.specs.declared.Row.{Row}
 use Rattle.attempts.proofs.StationTests.{is-reading, is-writing, is-idle}
-use Rattle.floor.specs.Floors.{boxAt, stationAt, rowAt, ownerAt}
+use Rattle.floor.specs.Floors.{boxAt, stationAt, rowAt, ownerAt, departmentAt, InUse}
+use Rattle.floor.specs.Effects.{rowTaken, servedBy}
+use Rattle.floor.proofs.UseLaws.{in-use-most, use-of}
 use Rattle.floor.specs.Free.{isFree, nextRow}
 use Rattle.floor.specs.Step.{stepOf}
 use Rattle.floor.specs.Runs.{floorAt, saidAt}
 use Rattle.floor.specs.Claims.{Sound, Free, StationMove, station-kept, station-begins, station-issues, station-decides, station-aborts, station-leaves, RowMove, row-kept, row-begins, row-served, row-heard, row-issues, StandingMove, stands-kept, stands-new, stands-served, stands-received, stands-issued}
 use Rattle.floor.specs.declared.Floor.{Floor}
-use Rattle.floor.proofs.FreeLaws.{free-means, free-holds, next-in, next-unused, next-some}
+use Rattle.floor.proofs.FreeLaws.{free-means, free-holds, next-unused, next-some}
 use Rattle.floor.proofs.Moves.{apply-station, apply-row}
-use Rattle.floor.proofs.RowLaws.{apply-used, used-stays}
+use Rattle.floor.proofs.RowLaws.{apply-begun-use, used-stays}
 use Rattle.floor.proofs.StandingLaws.{is-waiting, apply-standing}
-use Rattle.agreement.specs.Words.{Before, commandAt, Attempt, Named, OverAt, decided, aborted, gone, ServesAt, DeliversAt, IssuesAt, Answering, FreedAt, FreeAt, RowLeft, unused, free}
+use Rattle.agreement.specs.Words.{Before, commandAt, Attempt, attemptDepartment, Named, OverAt, decided, aborted, gone, ServesAt, DeliversAt, IssuesAt, Answering, FreedAt, FreeAt, RowLeft, unused, free}
 use Rattle.agreement.specs.GivenBack.{OwnAnswer}
-use Rattle.agreement.proofs.History.{StationShows}
+use Rattle.agreement.proofs.History.{UsedBy, StationShows}
 use Rattle.agreement.proofs.Reach.{New}
-use Rattle.agreement.proofs.Positions.{later, now, size-at, reached-at, means-at, row-at}
+use Rattle.agreement.proofs.Positions.{later, now, size-at, reached-at, lengths-at, owned-at, means-at, row-at}
 use Rattle.agreement.proofs.Deliveries.{owner-reads}
 use Rattle.agreement.proofs.Safety.{one-attempt}
 use Rattle.agreement.proofs.Standing.{sound-at, used-at, stopped-before, stopped-since, not-aborted}
@@ -100,8 +104,8 @@ module _ (f : Floor) (l : List (List ℕ)) (new : New f) (z : Sound f) where
 
   -- the begin of x
   pub record Begins (x : Attempt f l) : Type 0 where
-    pub taken : x .number ≡ nextRow (at-floor (x .at))
-    pub place : nextRow (at-floor (x .at)) < 64
+    pub taken : x .number ≡ rowTaken (at-floor (x .at)) (x .station)
+    pub place : rowTaken (at-floor (x .at)) (x .station) < 128
     pub row : rowAt (at-floor (suc (x .at))) (x .number) ≡ newRow (f .n) (x .station) (x .round) (x .offer)
     pub state : stationAt (at-floor (suc (x .at))) (x .station) .state ≡ Reading (x .number)
     pub last : stationAt (at-floor (suc (x .at))) (x .station) .last ≡ x .round
@@ -117,8 +121,8 @@ module _ (f : Floor) (l : List (List ℕ)) (new : New f) (z : Sound f) where
       let r : b .round ≡ x .round = cc in
       let o : b .offer ≡ x .offer = cc in
       record {
-        taken = b .next;
-        place = b .may .row;
+        taken = b .next ∙ ap (rowTaken (at-floor i)) s;
+        place = subst (λ (j : ℕ). rowTaken (at-floor i) j < 128) s (b .may .row);
         row = ap (rowAt (at-floor (suc i))) (b .next) ∙ b .row ∙ rw (size-at f l i, s, r, o) refl;
         state = ap (λ (j : ℕ). stationAt (at-floor (suc i)) j .state) (sym s) ∙ ap (λ (t : Station). t .state) (b .beginning) ∙ ap Reading (sym (b .next));
         last = ap (λ (j : ℕ). stationAt (at-floor (suc i)) j .last) (sym s) ∙ ap (λ (t : Station). t .last) (b .beginning) ∙ r;
@@ -127,16 +131,11 @@ module _ (f : Floor) (l : List (List ℕ)) (new : New f) (z : Sound f) where
       }
 
   -- its row is in use, and its own
-  pub in-use : (x : Attempt f l) (i : ℕ) → Named f l x i → x .number < at-floor i .used
+  pub in-use : (x : Attempt f l) (i : ℕ) → Named f l x i → InUse (at-floor i) (x .number)
   unfolding floorAt stepOf
   in-use x zero n = absurd (omega (arith, n .earlier))
   in-use x (suc i) n = elim (named-step x i n) [
-    | inl q ↦ (
-        let b = begins x in
-        let e = ap isBegun (ap (saidAt f l) (sym q) ∙ x .begun) in
-        let u = apply-used (at-floor i) (commandAt l i) ∙ sym (on-true _ e refl) in
-        let p : x .number < usedAfter (at-floor i .used) = subst (λ (k : ℕ). x .number < usedAfter (at-floor k .used)) q (rw (b .taken) (next-in (at-floor (x .at)) (b .place))) in
-        omega (arith, u))
+    | inl q ↦ apply-begun-use (at-floor i) (commandAt l i) (x .number) (ap (saidAt f l) (sym q) ∙ x .begun)
     | inr o ↦ used-stays (at-floor i) (commandAt l i) (x .number) (in-use x i (o .0))
   ]
 
@@ -244,8 +243,8 @@ module _ (f : Floor) (l : List (List ℕ)) (new : New f) (z : Sound f) where
       → StandingMove (at-floor i) (commandAt l i) (x .number) p b (saidAt f l i) (standsAt x p b i) (standsAt x p b (suc i))
   unfolding floorAt stepOf
   standing-moves x p b i h n =
-      apply-standing (at-floor i) (sound-at f l new z i) (reached-at f l new i .lengths) (x .number)
-      (omega (arith, in-use x i n, sound-at f l new z i .rows-most)) p b (omega (arith, size-at f l i)) (commandAt l i)
+      apply-standing (at-floor i) (sound-at f l new z i) (lengths-at f l new i) (x .number)
+      (in-use-most (at-floor i) (sound-at f l new z i) (x .number) (in-use x i n)) p b (omega (arith, size-at f l i)) (commandAt l i)
 
   stands : (x : Attempt f l) (p : Phase) (b : ℕ) → b < f .n → (i : ℕ) → Named f l x i → Stands x p b i (standsAt x p b i)
   stands x p b h zero n = absurd (omega (arith, n .earlier))
@@ -262,15 +261,16 @@ module _ (f : Floor) (l : List (List ℕ)) (new : New f) (z : Sound f) where
   written-moves x i n other (row-served c d) e h = h
   written-moves x i n other (row-heard c d k) e h = h
   written-moves x i n other (row-issues c d r q t u) e h =
-      absurd (omega (arith, owner-reads (reached-at f l new i .shows) (x .number) (in-use x i n) r))
+      absurd (omega (arith, owner-reads (x .number) (reached-at f l new (attemptDepartment f l x) i .shows) (owned-at f l new i) (in-use x i n) r))
 
   issued-now : (x : Attempt f l) (i : ℕ) → IssuesAt f l x i → 0 < rowAt (at-floor (suc i)) (x .number) .written
   issued-now x i d =
       let m = means-at f l new i (said.WriteIssued (d .revision)) (d .accepted) in
       let a : m .attempt ≡ x .number = cc (m .command, d .asked) in
       let j = rowAt (at-floor i) (m .attempt) .station in
-      let s = reached-at f l new (suc i) .shows .stations j in
-      let w = subst (StationShows (at-floor (suc i) .used) (at-floor (suc i) .rows) j (stationAt (at-floor (suc i)) j .decided)) (ap (λ (t : Station). t .state) (m .owner)) s in
+      let d = departmentAt (at-floor (suc i)) j in
+      let s = reached-at f l new d (suc i) .shows .stations j refl in
+      let w = subst (StationShows (UsedBy d (at-floor (suc i))) (at-floor (suc i) .rows) j (stationAt (at-floor (suc i)) j .decided)) (ap (λ (t : Station). t .state) (m .owner)) s in
       subst (λ (k : ℕ). 0 < rowAt (at-floor (suc i)) k .written) a (w .2)
 
   issued-written : (x : Attempt f l) (i : ℕ) → Named f l x i → Before (IssuesAt f l x) i → 0 < rowAt (at-floor i) (x .number) .written
@@ -291,9 +291,9 @@ module _ (f : Floor) (l : List (List ℕ)) (new : New f) (z : Sound f) where
     not-again (none e) k q r = clash k refl
     not-again (waits h) k q r = clash k refl
     not-again (answered h s) k q r =
-        omega (arith, issued-written x i n (subst (λ (y : Phase). Issued x p b y i) q h), owner-reads (reached-at f l new i .shows) (x .number) (in-use x i n) r)
+        omega (arith, issued-written x i n (subst (λ (y : Phase). Issued x p b y i) q h), owner-reads (x .number) (reached-at f l new (attemptDepartment f l x) i .shows) (owned-at f l new i) (in-use x i n) r)
     not-again (heard h s d) k q r =
-        omega (arith, issued-written x i n (subst (λ (y : Phase). Issued x p b y i) q h), owner-reads (reached-at f l new i .shows) (x .number) (in-use x i n) r)
+        omega (arith, issued-written x i n (subst (λ (y : Phase). Issued x p b y i) q h), owner-reads (x .number) (reached-at f l new (attemptDepartment f l x) i .shows) (owned-at f l new i) (in-use x i n) r)
 
     served-still : {o : Outcome} {s t : Standing} → StandingMove (at-floor i) (commandAt l i) (x .number) p b o s t → saidAt f l i ≡ o → Stands x p b i s
         → isServed s ≡ true → isServed t ≡ true
@@ -319,10 +319,10 @@ module _ (f : Floor) (l : List (List ℕ)) (new : New f) (z : Sound f) where
       let m = means-at f l new i (said.Served (x .number)) (d .accepted) in
       let q : m .phase ≡ p = cc (m .command, d .asked) in
       let c : m .box ≡ b = cc (m .command, d .asked) in
-      let slots = reached-at f l new i .lengths .slots p (x .number) (omega (arith, in-use x i n, sound-at f l new z i .rows-most)) in
-      let r : rowAt (at-floor (suc i)) (x .number) ≡ rowServed p (rowAt (at-floor i) (x .number)) (boxAt (at-floor i) b .register) b =
+      let slots = lengths-at f l new i .slots p (x .number) (in-use-most (at-floor i) (sound-at f l new z i) (x .number) (in-use x i n)) in
+      let r : rowAt (at-floor (suc i)) (x .number) ≡ rowServed p (rowAt (at-floor i) (x .number)) (servedBy (at-floor i) (x .number) b) b =
       m .row ∙ rw (q, c) refl in
-      rw r (row-served-stands p (rowAt (at-floor i) (x .number)) (boxAt (at-floor i) b .register) b (omega (arith, slots, z .box-most)))
+      rw r (row-served-stands p (rowAt (at-floor i) (x .number)) (servedBy (at-floor i) (x .number) b) b (omega (arith, slots, z .box-most)))
 
   served-since : (x : Attempt f l) (p : Phase) (b : ℕ) → b < f .n → (i : ℕ) → Named f l x i → Before (ServesAt f l x p b) i → isServed (standsAt x p b i) ≡ true
   served-since x p b h zero n d = absurd (omega (arith, n .earlier))
@@ -406,23 +406,25 @@ module _ (f : Floor) (l : List (List ℕ)) (new : New f) (z : Sound f) where
       rests b h a Write =
           not-true-false (isWaiting (standsAt x Write b i)) (λ e. clash e (served-rests (standsAt x Write b i) (served-since x Write b h i n (y .writes (writes-issued x b i (stands x Write b h i n) e) b h a))))
 
-  pub free-at : (a i : ℕ) → a < at-floor i .used → isFree (at-floor i) a ≡ true → FreeAt f l a i
+  pub free-at : (a i : ℕ) → InUse (at-floor i) a → isFree (at-floor i) a ≡ true → FreeAt f l a i
   free-at a i h e =
       let o = row-at f l new i a h in
       record { attempt = o .attempt; number = o .number; named = o .named; freed = freed-of (o .attempt) i (o .named) (subst (λ (k : ℕ). isFree (at-floor i) k ≡ true) (sym (o .number)) e) }
 
-  pub free-there : (a i : ℕ) → FreeAt f l a i → (a < at-floor i .used) × (isFree (at-floor i) a ≡ true)
+  pub free-there : (a i : ℕ) → FreeAt f l a i → InUse (at-floor i) a × (isFree (at-floor i) a ≡ true)
   free-there a i y =
       let x = y .attempt in
-      subst (λ (k : ℕ). (k < at-floor i .used) × (isFree (at-floor i) k ≡ true)) (y .number) (in-use x i (y .named), free-of x i (y .named) (y .freed))
+      subst (λ (k : ℕ). InUse (at-floor i) k × (isFree (at-floor i) k ≡ true)) (y .number) (in-use x i (y .named), free-of x i (y .named) (y .freed))
 
   -- a row left in the words of the list is one that a begin takes
-  pub row-left : (i : ℕ) → RowLeft f l i → nextRow (at-floor i) < 64
-  row-left i (unused h) = elim (used-at f l new i) [
-    | inl o ↦ rw (next-unused (at-floor i) (omega (arith, o .1))) (omega (arith, o .1))
+  pub row-left : (d : Department) (i : ℕ) → RowLeft f l d i → nextRow (at-floor i) d < 128
+  row-left d i (unused h) = elim (used-at f l new d i) [
+    | inl o ↦ rw (next-unused (at-floor i) d (omega (arith, o .1))) (omega (arith, o .1, first-most d))
     | inr o ↦ absurd (omega (arith, o .0))
   ]
-  row-left i (free a y) = let o = free-there a i y in next-some (at-floor i) (sound-at f l new z i .rows-most) a (o .0) (o .1)
+  row-left d i (free a e y) =
+      let o = free-there a i y in
+      next-some (at-floor i) d (sound-at f l new z i .rows-most d) a e (use-of (at-floor i) d a e (o .0)) (o .1)
 
   -- an answer that was received was served and delivered for the attempt that the number means
   received-own : (x : Attempt f l) (p : Phase) (b i : ℕ) {s : Standing} → Stands x p b i s → s ≡ received → OwnAnswer f l x p b i

@@ -11,16 +11,18 @@ use Rattle.requests.specs.declared.Phase.{Phase}
 use Rattle.commands.specs.Outcomes.{isBegun}
 use Rattle.commands.specs.declared.Command.the-variants.{Begin, Serve, Deliver}
 use Rattle.commands.specs.declared.Outcome.the-variants as said
-use Rattle.floor.specs.Floors.{stationAt}
+use Rattle.floor.specs.Floors.{stationAt, departmentAt, InUse}
+use Rattle.floor.specs.Effects.{rowTaken}
+use Rattle.floor.proofs.UseLaws.{use-of}
 use Rattle.floor.specs.Free.{isFree}
 use Rattle.floor.specs.Step.{stepOf}
 use Rattle.floor.specs.Runs.{floorAt, saidAt}
 use Rattle.floor.specs.Claims.{Sound}
 use Rattle.floor.specs.declared.Floor.{Floor}
-use Rattle.floor.proofs.FreeLaws.{next-free}
+use Rattle.floor.proofs.FreeLaws.{next-own, next-free}
 use Rattle.floor.proofs.Keeps.{new-sound}
 use Rattle.floor.proofs.StationLaws.{last-from}
-use Rattle.agreement.specs.Words.{commandAt, Attempt, attemptRank, Named, ServedAt, ServesAt, DeliversAt, FreedAt}
+use Rattle.agreement.specs.Words.{commandAt, Attempt, attemptRank, attemptDepartment, Named, ServedAt, ServesAt, DeliversAt, FreedAt}
 use Rattle.agreement.specs.Demand.{firstFloor}
 use Rattle.agreement.specs.GivenBack.{Drops, GivenBackTheorem}
 use Rattle.agreement.proofs.Reach.{New, new-floor}
@@ -76,7 +78,7 @@ module _ (f : Floor) (l : List (List ℕ)) (new : New f) (z : Sound f) where
       | inr q ↦ not-named k q (s .named)
     ]
 
-    rank-not-served : (b k : ℕ) → y .at ≤ k → ¬ ServedAt f l (attemptRank f l x) b k
+    rank-not-served : (b k : ℕ) → y .at ≤ k → ¬ ServedAt f l (attemptDepartment f l x) (attemptRank f l x) b k
     rank-not-served b k h s =
         let e = one-rank (s .attempt) x (s .rank) in
         let m = same-number (s .attempt) x e in
@@ -91,10 +93,13 @@ module _ (f : Floor) (l : List (List ℕ)) (new : New f) (z : Sound f) where
         let b = begins f l new z y in
         let e = d .number ∙ b .taken in
         let u = in-use f l new z x (y .at) (d .named) in
-        freed-of f l new z x (y .at) (d .named) (subst (λ (a : ℕ). isFree (floorAt f l (y .at)) a ≡ true) (sym e) (next-free (floorAt f l (y .at)) (omega arith) (b .place)))
+        let g = floorAt f l (y .at) in
+        let own = departmentAt g (y .station) in
+        let v = use-of g own (rowTaken g (y .station)) (next-own g own (b .place)) (subst (InUse g) e u) in
+        freed-of f l new z x (y .at) (d .named) (subst (λ (a : ℕ). isFree g a ≡ true) (sym e) (next-free g own v (b .place)))
 
 pub given-back : GivenBackTheorem
-given-back n m l = let f = firstFloor n m in let new = new-floor n m in let z = new-sound n m in record {
+given-back n m t l = let f = firstFloor n m t in let new = new-floor n m t in let z = new-sound n m t in record {
   free = free-at f l new z;
   free-holds = free-there f l new z;
   used = used-at f l new;

@@ -1,5 +1,5 @@
 -- The history of a run, for the theory of crate `protocol`, and the relation between a floor and its history.
-use Prim.Native.Nat.{ℕ, zero, suc, _/_, _%_, _≤_, _<_}
+use Prim.Native.Nat.{ℕ, zero, suc, _+_, _/_, _%_, _≤_, _<_}
 use native.Mathlib.Omega.{arith}
 use mathlib.Core.Path.{_≡_, refl, sym, ap, subst, _∙_}
 use mathlib.Core.Logic.{inl, inr}
@@ -7,16 +7,21 @@ use mathlib.Core.Bool.{Bool, true, false}
 use mathlib.Core.List.{List, _∷_, List·Memᴰ, List·Memᴰ·tail, List·Memᴰ·cases-cons}
 use lib.ListN.{length, getD, set}
 use borrow.Author.Tests.{eq-eqb}
+use Rattle.register.specs.declared.Department.{Department}
+use Rattle.register.specs.declared.Register.{Register}
 use Rattle.register.specs.declared.StorageBox.{StorageBox}
 use Rattle.protocol.specs.Trace.{Box, Event, read, nack, issued, took, refused, note}
 use Rattle.protocol.specs.Claims.{Persistent}
 use Rattle.requests.specs.Requests.{slot0, slotAt, heardFrom, slotWaiting, waitingBelow, issuedTo}
 use Rattle.requests.specs.declared.Slot.{Slot}
 use Rattle.requests.specs.declared.Requests.{Requests}
-use Rattle.register.specs.Register.{box0}
+use Rattle.register.specs.Register.{box0, registerOf}
 use Rattle.attempts.specs.Stations.{station0, isActive}
-use Rattle.attempts.specs.Rows.{row0, answer0}
-use Rattle.floor.specs.Floors.{boxAt, stationAt, rowAt}
+use Rattle.attempts.specs.Rows.{row0, answer0, rowDepartment, firstRow}
+use Rattle.floor.specs.Floors.{stationAt, rowAt, registerAt, departmentAt, InUse}
+use Rattle.floor.specs.Departments.{SameFor, Owned}
+use Rattle.floor.specs.declared.Share.{Share}
+use Rattle.floor.proofs.UseLaws.{use-of, of-use}
 use Rattle.attempts.specs.declared.State.{State}
 use Rattle.attempts.specs.declared.State.the-variants.{Idle, Reading, Writing, Decided, Gone}
 use Rattle.requests.specs.declared.Stage.{Stage}
@@ -47,12 +52,16 @@ Offered l v = List·Memᴰ (note (offered v)) l
 pub offered-stays : Persistent Offered
 offered-stays e l v m = List·Memᴰ·tail m
 
--- the boxes, as the theory sees them
-abbrev pub toBox : StorageBox → Box ℕ
-toBox x = record { readRank = x .register .read; writeRank = x .register .write; value = x .register .value }
+-- the boxes of a department, as the theory sees them
+abbrev pub toBox : Register → Box ℕ
+toBox x = record { readRank = x .read; writeRank = x .write; value = x .value }
 
-abbrev pub registersOf : Floor → ℕ → Box ℕ
-registersOf f b = toBox (boxAt f b)
+abbrev pub registersOf : Department → Floor → ℕ → Box ℕ
+registersOf d f b = toBox (registerAt f d b)
+
+-- the department uses the row a
+abbrev pub UsedBy : Department → Floor → ℕ → Type 0
+UsedBy d f a = (rowDepartment a ≡ d) × InUse f a
 
 -- 1 more than the rank at which an event issues or takes a write; 0 for every other event
 abbrev pub writerOf : Happening → ℕ
@@ -119,23 +128,23 @@ pub record RowShows (w : Row) (l : History) : Type 0 where
   pub reads : ReadsShow (w .rank) (w .read) (w .answers) l
   pub writes : WritesShow (w .rank) (w .written) (w .write) l
 
--- The station j that shows the decided revision v: where it reads or writes, it is in a row in use of its own.
-abbrev pub StationShows : ℕ → List Row → ℕ → ℕ → State → Type 0
-StationShows used rows j v Idle = Unit {0}
-StationShows used rows j v (Reading a) = (a < used) × (getD rows a row0 .station ≡ j) × (getD rows a row0 .written ≡ 0)
-StationShows used rows j v (Writing a) = (a < used) × (getD rows a row0 .station ≡ j) × (0 < getD rows a row0 .written)
-StationShows used rows j v (Decided a) = 0 < v
-StationShows used rows j v Gone = Unit {0}
+-- The station j that shows the decided revision v: where it reads or writes, it is in a row in use, which `Used` has, of its own.
+abbrev pub StationShows : (ℕ → Type 0) → List Row → ℕ → ℕ → State → Type 0
+StationShows Used rows j v Idle = Unit {0}
+StationShows Used rows j v (Reading a) = Used a × (getD rows a row0 .station ≡ j) × (getD rows a row0 .written ≡ 0)
+StationShows Used rows j v (Writing a) = Used a × (getD rows a row0 .station ≡ j) × (0 < getD rows a row0 .written)
+StationShows Used rows j v (Decided a) = 0 < v
+StationShows Used rows j v Gone = Unit {0}
 
--- What a floor shows of its history. Rows have ranks of their own, none above its station's last round; above that round nothing was
--- written yet.
-pub record Shows (f : Floor) (l : History) : Type 0 where
-  pub paired : (b : ℕ) → Paired (boxAt f b .register .write) (boxAt f b .register .value)
-  pub rows : (a : ℕ) → a < f .used → RowShows (rowAt f a) l
-  pub distinct : (a c : ℕ) → a < f .used → c < f .used → rowAt f a .rank ≡ rowAt f c .rank → a ≡ c
-  pub begun : (a : ℕ) → a < f .used → rowAt f a .rank / 16 ≤ stationAt f (rowAt f a .rank % 16) .last
-  pub unbegun : (r : ℕ) → stationAt f (r % 16) .last < r / 16 → Unwritten l r
-  pub stations : (j : ℕ) → StationShows (f .used) (f .rows) j (stationAt f j .decided) (stationAt f j .state)
+-- What a floor shows of the history of the department d. Rows have ranks of their own, none above its station's last round; above that round
+-- nothing was written yet.
+pub record Shows (d : Department) (f : Floor) (l : History) : Type 0 where
+  pub paired : (b : ℕ) → Paired (registerAt f d b .write) (registerAt f d b .value)
+  pub rows : (a : ℕ) → UsedBy d f a → RowShows (rowAt f a) l
+  pub distinct : (a c : ℕ) → UsedBy d f a → UsedBy d f c → rowAt f a .rank ≡ rowAt f c .rank → a ≡ c
+  pub begun : (a : ℕ) → UsedBy d f a → rowAt f a .rank / 16 ≤ stationAt f (rowAt f a .rank % 16) .last
+  pub unbegun : (r : ℕ) → departmentAt f (r % 16) ≡ d → stationAt f (r % 16) .last < r / 16 → Unwritten l r
+  pub stations : (j : ℕ) → departmentAt f j ≡ d → StationShows (UsedBy d f) (f .rows) j (stationAt f j .decided) (stationAt f j .state)
 
 -- one event more
 module _ {l : History} (e : Happening) where
@@ -170,48 +179,53 @@ module _ {l : History} (e : Happening) where
   }
 
 -- a row is stored; where the station j owned it and is in it, the new one is the station's too, and has written as much
-module _ (used k : ℕ) (rows : List Row) (a : ℕ) (w : Row) (j v : ℕ) (up : used ≤ k) where
+module _ (Used Then : ℕ → Type 0) (rows : List Row) (a : ℕ) (w : Row) (j v : ℕ) (up : (i : ℕ) → Used i → Then i) where
   abbrev Kept : State → ℕ → Row → Type 0
-  Kept p i x = isActive p i ≡ true → i < used → getD rows i row0 .station ≡ j → (x .station ≡ j) × (x .written ≡ getD rows i row0 .written)
+  Kept p i x = isActive p i ≡ true → Used i → getD rows i row0 .station ≡ j → (x .station ≡ j) × (x .written ≡ getD rows i row0 .written)
 
   kept : (p : State) → Kept p a w → (i : ℕ) → Kept p i (getD (set rows a w) i row0)
   kept p same = set-all row0 (Kept p) rows a w (λ i _ h e. (e, refl)) same
 
-  pub station-kept-by : (p : State) → Kept p a w → StationShows used rows j v p → StationShows k (set rows a w) j v p
+  pub station-kept-by : (p : State) → Kept p a w → StationShows Used rows j v p → StationShows Then (set rows a w) j v p
   station-kept-by Idle same s = tt
-  station-kept-by (Reading i) same s = let o = kept (Reading i) same i (eq-eqb i i refl) (s .0) (s .1) in (omega (arith, s .0), o .0, o .1 ∙ s .2)
-  station-kept-by (Writing i) same s = let o = kept (Writing i) same i (eq-eqb i i refl) (s .0) (s .1) in (omega (arith, s .0), o .0, omega (arith, o .1, s .2))
+  station-kept-by (Reading i) same s = let o = kept (Reading i) same i (eq-eqb i i refl) (s .0) (s .1) in (up i (s .0), o .0, o .1 ∙ s .2)
+  station-kept-by (Writing i) same s = let o = kept (Writing i) same i (eq-eqb i i refl) (s .0) (s .1) in (up i (s .0), o .0, omega (arith, o .1, s .2))
   station-kept-by (Decided i) same s = s
   station-kept-by Gone same s = tt
 
--- a station is stored
-pub stations-stored : (used : ℕ) (rows : List Row) (ss : List Station) (t : ℕ) (y : Station) → t < length ss
-    → ((j : ℕ) → ¬ (j ≡ t) → StationShows used rows j (getD ss j station0 .decided) (getD ss j station0 .state)) → StationShows used rows t (y .decided) (y .state)
-    → (j : ℕ) → StationShows used rows j (getD (set ss t y) j station0 .decided) (getD (set ss t y) j station0 .state)
-stations-stored used rows ss t y h = set-in station0 (λ (j : ℕ) (x : Station). StationShows used rows j (x .decided) (x .state)) ss t y h
+-- a station of the department is stored
+pub stations-stored : (d : Department) (Used : ℕ → Type 0) (rows : List Row) (ss : List Station) (t : ℕ) (y : Station) → t < length ss
+    → ((j : ℕ) → ¬ (j ≡ t) → getD ss j station0 .department ≡ d → StationShows Used rows j (getD ss j station0 .decided) (getD ss j station0 .state))
+    → (y .department ≡ d → StationShows Used rows t (y .decided) (y .state))
+    → (j : ℕ) → getD (set ss t y) j station0 .department ≡ d → StationShows Used rows j (getD (set ss t y) j station0 .decided) (getD (set ss t y) j station0 .state)
+stations-stored d Used rows ss t y h = set-in station0 (λ (j : ℕ) (x : Station). x .department ≡ d → StationShows Used rows j (x .decided) (x .state)) ss t y h
 
--- a station is replaced by one with the same last round
-pub last-stored : (ss : List Station) (t : ℕ) (y : Station) → y .last ≡ getD ss t station0 .last → (j : ℕ) → getD (set ss t y) j station0 .last ≡ getD ss j station0 .last
-last-stored ss t y e = set-all station0 (λ (j : ℕ) (x : Station). x .last ≡ getD ss j station0 .last) ss t y (λ j. refl) e
+-- a station is replaced by one with the same last round and department
+abbrev pub SameStation : (x y : Station) → Type 0
+SameStation x y = (y .last ≡ x .last) × (y .department ≡ x .department)
 
--- The floor after an event, where boxes and stations become bs and ss and each station keeps its last round: what is left to show.
-module _ {f : Floor} {l : History} (s : Shows f l) (e : Happening) (bs : List StorageBox) (ss : List Station)
-    (paired : (b : ℕ) → Paired (getD bs b box0 .register .write) (getD bs b box0 .register .value))
-    (last : (j : ℕ) → getD ss j station0 .last ≡ stationAt f j .last) where
+pub station-same : (ss : List Station) (t : ℕ) (y : Station) → SameStation (getD ss t station0) y → (j : ℕ) → SameStation (getD ss j station0) (getD (set ss t y) j station0)
+station-same ss t y e = set-all station0 (λ (j : ℕ) (x : Station). SameStation (getD ss j station0) x) ss t y (λ j. (refl, refl)) e
+
+-- The floor after an event, where boxes and stations become bs and ss and each station keeps its last round and its department: what is left
+-- to show.
+module _ {d : Department} {f : Floor} {l : History} (s : Shows d f l) (e : Happening) (bs : List StorageBox) (ss : List Station)
+    (paired : (b : ℕ) → Paired (registerOf d (getD bs b box0) .write) (registerOf d (getD bs b box0) .value))
+    (same : (j : ℕ) → SameStation (stationAt f j) (getD ss j station0)) where
   -- nothing is written, and the rows stay
-  pub shows-kept : writerOf e ≡ 0 → ((j : ℕ) → StationShows (f .used) (f .rows) j (getD ss j station0 .decided) (getD ss j station0 .state))
-      → Shows (record { n = f .n; m = f .m; used = f .used; highest = f .highest; boxes = bs; stations = ss; rows = f .rows }) (e ∷ l)
+  pub shows-kept : writerOf e ≡ 0 → ((j : ℕ) → getD ss j station0 .department ≡ d → StationShows (UsedBy d f) (f .rows) j (getD ss j station0 .decided) (getD ss j station0 .state))
+      → Shows d (record { n = f .n; m = f .m; shares = f .shares; boxes = bs; stations = ss; rows = f .rows }) (e ∷ l)
   shows-kept silent stations = record {
     paired = paired;
     rows = λ a h. row-more e (λ q. omega arith) (s .rows a h);
     distinct = s .distinct;
-    begun = λ a h. rw (last (rowAt f a .rank % 16)) (s .begun a h);
-    unbegun = λ r h. unwritten-more l r e (λ q. omega arith) (s .unbegun r (rw (last (r % 16)) at h));
+    begun = λ a h. rw (same (rowAt f a .rank % 16) .0) (s .begun a h);
+    unbegun = λ r q h. unwritten-more l r e (λ q. omega arith) (s .unbegun r (sym (same (r % 16) .1) ∙ q) (rw (same (r % 16) .0) at h));
     stations = stations;
   }
 
   -- the row a is stored with its rank, and nothing is written at any other rank
-  module _ (y : Lengths f) (a : ℕ) (ha : a < f .used) (h64 : f .used ≤ 64) (w : Row) (rank : w .rank ≡ rowAt f a .rank)
+  module _ (y : Lengths f) (a : ℕ) (ha : UsedBy d f a) (place : a < 128) (w : Row) (rank : w .rank ≡ rowAt f a .rank)
       (own : (r : ℕ) → writerOf e ≡ suc r → r ≡ rowAt f a .rank) where
     rank-kept : (k : ℕ) → getD (set (f .rows) a w) k row0 .rank ≡ rowAt f k .rank
     rank-kept = set-all row0 (λ (k : ℕ) (x : Row). x .rank ≡ rowAt f k .rank) (f .rows) a w (λ k. refl) rank
@@ -220,14 +234,53 @@ module _ {f : Floor} {l : History} (s : Shows f l) (e : Happening) (bs : List St
     not-unbegun : (r : ℕ) → stationAt f (r % 16) .last < r / 16 → ¬ (writerOf e ≡ suc r)
     not-unbegun r h q = omega (arith, subst (λ (k : ℕ). stationAt f (k % 16) .last < k / 16) (own r q) h, s .begun a ha)
 
-    pub shows-stored : RowShows w (e ∷ l) → ((j : ℕ) → StationShows (f .used) (set (f .rows) a w) j (getD ss j station0 .decided) (getD ss j station0 .state))
-        → Shows (record { n = f .n; m = f .m; used = f .used; highest = f .highest; boxes = bs; stations = ss; rows = set (f .rows) a w }) (e ∷ l)
+    pub shows-stored : RowShows w (e ∷ l)
+        → ((j : ℕ) → getD ss j station0 .department ≡ d → StationShows (UsedBy d f) (set (f .rows) a w) j (getD ss j station0 .decided) (getD ss j station0 .state))
+        → Shows d (record { n = f .n; m = f .m; shares = f .shares; boxes = bs; stations = ss; rows = set (f .rows) a w }) (e ∷ l)
     shows-stored new stations = record {
       paired = paired;
-      rows = set-in row0 (λ (k : ℕ) (x : Row). k < f .used → RowShows x (e ∷ l)) (f .rows) a w (omega (arith, y .rows))
+      rows = set-in row0 (λ (k : ℕ) (x : Row). UsedBy d f k → RowShows x (e ∷ l)) (f .rows) a w (omega (arith, y .rows))
           (λ k p h. row-more e (λ q. p (s .distinct k a h ha (own (rowAt f k .rank) q))) (s .rows k h)) (λ h. new);
       distinct = λ i j hi hj q. s .distinct i j hi hj (sym (rank-kept i) ∙ q ∙ rank-kept j);
-      begun = λ k h. rw (rank-kept k, last (rowAt f k .rank % 16)) (s .begun k h);
-      unbegun = λ r h. let o = rw (last (r % 16)) at h in unwritten-more l r e (not-unbegun r o) (s .unbegun r o);
+      begun = λ k h. rw (rank-kept k, same (rowAt f k .rank % 16) .0) (s .begun k h);
+      unbegun = λ r q h. let o = rw (same (r % 16) .0) at h in unwritten-more l r e (not-unbegun r o) (s .unbegun r (sym (same (r % 16) .1) ∙ q) o);
       stations = stations;
     }
+
+-- A floor that has of the department what f has shows the same, with nothing more noted.
+module _ {d : Department} {f g : Floor} {l : History} (s : Shows d f l) (o : Owned f) (k : SameFor d f g) where
+  used-same : (a : ℕ) → UsedBy d g a → UsedBy d f a
+  used-same a h = (h .0, of-use f d a (h .0) (subst (λ (x : Share). a < firstRow d + x .used) (k .share) (use-of g d a (h .0) (h .1))))
+
+  same-used : (a : ℕ) → UsedBy d f a → UsedBy d g a
+  same-used a h = (h .0, of-use g d a (h .0) (subst (λ (x : Share). a < firstRow d + x .used) (sym (k .share)) (use-of f d a (h .0) (h .1))))
+
+  seat-same : (j v : ℕ) (p : State) → StationShows (UsedBy d f) (f .rows) j v p → StationShows (UsedBy d g) (g .rows) j v p
+  seat-same j v Idle q = tt
+  seat-same j v (Reading a) q =
+      let e = k .rows a (q .0 .0) in
+      (same-used a (q .0), ap (λ (w : Row). w .station) e ∙ q .1, ap (λ (w : Row). w .written) e ∙ q .2)
+  seat-same j v (Writing a) q =
+      let e = k .rows a (q .0 .0) in
+      (same-used a (q .0), ap (λ (w : Row). w .station) e ∙ q .1, omega (arith, ap (λ (w : Row). w .written) e, q .2))
+  seat-same j v (Decided a) q = q
+  seat-same j v Gone q = tt
+
+  -- the station of a row's rank is of the department
+  rank-station : (a : ℕ) → UsedBy d f a → stationAt g (rowAt f a .rank % 16) ≡ stationAt f (rowAt f a .rank % 16)
+  rank-station a h = k .stations (rowAt f a .rank % 16) (ap (departmentAt f) (s .rows a h .place) ∙ o a (h .1) ∙ h .0)
+
+  pub shows-same : Shows d g (note quiet ∷ l)
+  shows-same = record {
+    paired = λ b. rw (k .registers b) (s .paired b);
+    rows = λ a h. rw (k .rows a (h .0)) (row-more (note quiet) (λ q. omega arith) (s .rows a (used-same a h)));
+    distinct = λ a c h i q.
+        s .distinct a c (used-same a h) (used-same c i) (ap (λ (w : Row). w .rank) (sym (k .rows a (h .0))) ∙ q ∙ ap (λ (w : Row). w .rank) (k .rows c (i .0)));
+    begun = λ a h. let u = used-same a h in rw (k .rows a (h .0), rank-station a u) (s .begun a u);
+    unbegun = λ r q h.
+        let e = sym (k .departments (r % 16)) ∙ q in
+        unwritten-more l r (note quiet) (λ q. omega arith) (s .unbegun r e (rw (k .stations (r % 16) e) at h));
+    stations = λ j q.
+        let e = sym (k .departments j) ∙ q in
+        rw (k .stations j e) (seat-same j (stationAt f j .decided) (stationAt f j .state) (s .stations j e));
+  }

@@ -13,7 +13,7 @@ use Rattle.base.proofs.MaskLaws.{bit-zero}
 use Rattle.requests.specs.Requests.{heardFrom, atQuorum, allYes}
 use Rattle.requests.specs.declared.Phase.the-variants.{Read}
 use Rattle.requests.proofs.RequestLaws.{quorum-majority, yes-means}
-use Rattle.attempts.specs.Rows.{row0, answer0, noBest, bestFrom, bestOf, revisionFrom, revisionOf}
+use Rattle.attempts.specs.Rows.{row0, answer0, rowDepartment, noBest, bestFrom, bestOf, revisionFrom, revisionOf}
 use Rattle.attempts.specs.Stations.{isReading, withState}
 use Rattle.floor.specs.Claims.{Sound, Lengths, CanDeliver}
 use Rattle.attempts.specs.Rows as rows
@@ -23,7 +23,9 @@ use Rattle.attempts.specs.declared.Answer.{Answer}
 use Rattle.attempts.specs.declared.Row.{Row}
 use Rattle.floor.specs.declared.Floor.{Floor}
 use Rattle.base.proofs.Cases.{clash}
+use Rattle.register.specs.declared.Department.{Department}
 use Rattle.floor.specs.Floors.{ownerAt}
+use Rattle.floor.specs.Departments.{Owned}
 use Rattle.floor.specs.Effects.{heardRow, afterIssue}
 use Rattle.floor.proofs.Keeps.{used-stored}
 use Rattle.attempts.specs.Claims.{Found, nothing, highest}
@@ -36,12 +38,15 @@ use Rattle.agreement.proofs.Deliveries.{viewOf, heard-shows, owner-read
 abbrev answerAt : (w : Row) (j : ℕ) → Answer
 answerAt w j = getD (w .answers) j answer0
 
-module _ {f : Floor} {l : History} (s : Shows f l) (y : Lengths f) (z : Sound f) (a b : ℕ) (d : CanDeliver f Read a b) where
+module _ {f : Floor} {l : History} (a b : ℕ) (s : Shows (rowDepartment a) f l) (o : Owned f) (y : Lengths f) (z : Sound f) (d : CanDeliver f Read a b) where
+  abbrev own : Department
+  own = rowDepartment a
+
   abbrev w : Row
   w = heardRow f Read a b
 
   shown : RowShows w l
-  shown = heard-shows s Read a b d
+  shown = heard-shows Read a b s d
 
   module _ (reads : isReading (ownerAt f a .state) a ≡ true) (q : atQuorum (w .read) (f .n) ≡ true)
       (t : allYes (w .read) (f .n) ≡ true) where
@@ -49,7 +54,7 @@ module _ {f : Floor} {l : History} (s : Shows f l) (y : Lengths f) (z : Sound f)
     read-of j k h = shown .reads .answered j (shown .reads .received j h) (yes-means (w .read) (f .n) t j k h)
 
     -- what the best answer allows
-    may-issue : {x : Best} → Found (w .answers) (w .read) (f .n) x → MayIssue (f .n) _≡_ (viewOf f l) (w .rank) (revisionFrom x (w .offer))
+    may-issue : {x : Best} → Found (w .answers) (w .read) (f .n) x → MayIssue (f .n) _≡_ (viewOf own f l) (w .rank) (revisionFrom x (w .offer))
     may-issue (nothing h) = record {
       rank = 0;
       value = 0;
@@ -66,7 +71,7 @@ module _ {f : Floor} {l : History} (s : Shows f l) (y : Lengths f) (z : Sound f)
       };
       follows = λ p. sym (revision-value (bestFrom (answerAt w c)) (w .offer) (shown .reads .paired c .1 p));
       offered = λ k. elim (eq-zero-or-pos (answerAt w c .rank)) [
-        | inl o ↦ rw (revision-offer (bestFrom (answerAt w c)) (w .offer) (shown .reads .paired c .0 o)) (shown .offer)
+        | inl e ↦ rw (revision-offer (bestFrom (answerAt w c)) (w .offer) (shown .reads .paired c .0 e)) (shown .offer)
         | inr p ↦ rw (revision-value (bestFrom (answerAt w c)) (w .offer) (shown .reads .paired c .1 p)) (k p)
       ];
     }
@@ -74,7 +79,7 @@ module _ {f : Floor} {l : History} (s : Shows f l) (y : Lengths f) (z : Sound f)
     abbrev value : ℕ
     value = revisionOf w (f .n)
 
-    value-allowed : MayIssue (f .n) _≡_ (viewOf f l) (w .rank) value
+    value-allowed : MayIssue (f .n) _≡_ (viewOf own f l) (w .rank) value
     unfolding revisionOf
     value-allowed = may-issue (best-found (w .answers) (w .read) (f .n))
 
@@ -86,7 +91,7 @@ module _ {f : Floor} {l : History} (s : Shows f l) (y : Lengths f) (z : Sound f)
     ]
 
     unwritten : w .written ≡ 0
-    unwritten = owner-reads s a (d .used) reads
+    unwritten = owner-reads a s o (d .used) reads
 
     issued-row : RowShows (rows.issued w value (f .n)) (issued (w .rank) value ∷ l)
     unfolding rows.issued
@@ -104,8 +109,8 @@ module _ {f : Floor} {l : History} (s : Shows f l) (y : Lengths f) (z : Sound f)
         taken = λ j h. clash h (waiting-unanswered (f .n) j);
         refusal = λ j h. clash h (waiting-unanswered (f .n) j);
         only = λ j m. elim (List·Memᴰ·cases-cons m) [
-          | inl e ↦ absurd (let o : _≡_ {A = ℕ} 0 1 = cc in omega arith)
-          | inr o ↦ absurd (shown .writes .unwritten unwritten (took (w .rank) j) o refl)
+          | inl e ↦ absurd (let k : _≡_ {A = ℕ} 0 1 = cc in omega arith)
+          | inr m ↦ absurd (shown .writes .unwritten unwritten (took (w .rank) j) m refl)
         ];
       };
     }
@@ -113,11 +118,11 @@ module _ {f : Floor} {l : History} (s : Shows f l) (y : Lengths f) (z : Sound f)
     stored : getD (set (f .rows) a (rows.issued w value (f .n))) a row0 ≡ rows.issued w value (f .n)
     stored = used-stored f y z a (rows.issued w value (f .n)) (d .used)
 
-    pub issue-step : StepTo f l (afterIssue f a w value) (issued (w .rank) value)
+    pub issue-step : StepTo own f l (afterIssue f a w value) (issued (w .rank) value)
     unfolding rows.issued
     issue-step = record {
       step = issue (λ j. refl) value-allowed (λ u m. absurd (shown .writes .unwritten unwritten (issued (w .rank) u) m refl));
-      shows = row-moved s y z a (d .used) (rows.issued w value (f .n)) refl (withState (ownerAt f a) (Writing a)) refl
+      shows = row-moved a s o y z (d .used) (rows.issued w value (f .n)) refl (withState (ownerAt f a) (Writing a)) (refl, refl)
           (issued (w .rank) value) (λ r e. omega arith) issued-row
-          (d .used, ap (λ (x : Row). x .station) stored, omega (arith, ap (λ (x : Row). x .written) stored, value-positive));
+          ((refl, d .used), ap (λ (x : Row). x .station) stored, omega (arith, ap (λ (x : Row). x .written) stored, value-positive));
     }

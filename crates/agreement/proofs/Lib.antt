@@ -1,5 +1,5 @@
 -- In layers, each resting on those before it: the history of a run and what it shows of the floor; each kind of step as a step of the
--- theory; the floors that a list reaches; the run by positions; safety; where stations and boxes stand; rows given back; a station driven alone; demand 3;
+-- theory; the floors that a list reaches; the run by positions; safety; where stations and boxes stand; rows given back; a station driven alone; demand 3; one department's steps deleted;
 -- the widths of numbers and the box record in C; lists worked through; files.
 pub mod Edits
 pub mod History
@@ -17,6 +17,8 @@ pub mod FreeRows
 pub mod GivenBack
 pub mod Alone
 pub mod Demand
+pub mod Alike
+pub mod Deletion
 pub mod Widths
 pub mod Chain
 pub mod Worked

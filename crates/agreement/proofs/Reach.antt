@@ -1,12 +1,13 @@
 -- Every step, accepted or refused, leads from a floor that shows its history to one that shows it with what happened.
-use Prim.Native.Nat.{ℕ, _<_}
+use Prim.Native.Nat.{ℕ}
 use native.Mathlib.Omega.{arith}
-use mathlib.Core.Path.{_≡_, refl, sym, ap, subst}
+use mathlib.Core.Path.{_≡_, refl, sym, ap, subst, _∙_}
 use mathlib.Core.Bool.{Bool, true, false}
-use mathlib.Core.List.{[], _∷_, List·Memᴰ·not-nil}
-use Rattle.base.specs.Numbers.{sizesRight}
-use Rattle.base.proofs.Choices.{by-test}
-use Rattle.register.specs.Register.{rmwRead, rmwWrite, box0}
+use mathlib.Core.List.{List, [], _∷_, List·Memᴰ·not-nil}
+use lib.ListN.{length}
+use Rattle.register.specs.Register.{isOf, registerOf, rmwRead, rmwWrite, box0}
+use Rattle.register.specs.declared.Department.{Department}
+use Rattle.register.specs.declared.Department.the-variants.{Sails, Canvas}
 use Rattle.register.specs.declared.ReadAnswer.{ReadAnswer}
 use Rattle.register.specs.declared.ReadAnswer.the-variants.{Held, Outranked}
 use Rattle.register.specs.declared.StorageBox.{StorageBox}
@@ -16,162 +17,229 @@ use Rattle.protocol.proofs.TraceLaws.{run-inv}
 use Rattle.protocol.proofs.Instances.{equality}
 use Rattle.requests.specs.declared.Phase.{Phase}
 use Rattle.requests.specs.declared.Phase.the-variants.{Read, Write}
-use Rattle.attempts.specs.Stations.{station0, withState}
-use Rattle.floor.specs.Floors.{boxAt, stationAt, rowAt, emptyFloor, newFloorOf}
+use Rattle.attempts.specs.Stations.{withState}
+use Rattle.floor.specs.Floors.{boxAt, stationAt, rowAt, registerAt, departmentAt, shareOf, InUse, newStation, emptyFloor, newFloorOf}
+use Rattle.floor.specs.Departments.{belongs, SameFor, Owned}
+use Rattle.floor.proofs.DepartmentLaws.{case-untouched}
+use Rattle.floor.proofs.FreeLaws.{next-own}
 use Rattle.floor.specs.Claims.{Sound, Lengths, CanLeave}
-use Rattle.attempts.specs.Rows.{revisionOf}
+use Rattle.attempts.specs.Rows.{rowDepartment, revisionOf}
 use Rattle.attempts.specs.declared.State.the-variants as state
 use Rattle.floor.specs.declared.Floor.{Floor}
-use Rattle.floor.specs.declared.NewFloor.{NewFloor}
 use Rattle.floor.specs.declared.Stepped.{Stepped}
 use Rattle.commands.specs.declared.Command.{Command}
 use Rattle.commands.specs.declared.Command.the-variants.{Begin, Serve}
 use Rattle.commands.specs.declared.Outcome.{Outcome}
 use Rattle.commands.specs.declared.Outcome.the-variants as said
-use Rattle.floor.specs.Effects.{heardRow, afterStop, afterLeave}
+use Rattle.floor.specs.Effects.{heardRow, rowTaken, servedBy, afterStop, afterLeave}
+use Rattle.floor.specs.Effects as effects
 use Rattle.floor.proofs.StepCases.{StepCase, turned, began, served, heard, issued, decided, aborted, stopped, left}
 use Rattle.floor.proofs.StepCases as cases
-use Rattle.floor.proofs.Keeps.{empty-lengths}
+use Rattle.floor.proofs.Keeps.{empty-lengths, empty-unused, told-at, new-floor-by}
 use Rattle.base.proofs.Stores.{set-all, getD-same}
-use Rattle.agreement.proofs.History.{offered, quiet, Happening, History, Offered, offered-stays, toBox, registersOf, stations-stored, last-stored, Shows, shows-kept}
-use Rattle.agreement.proofs.Serves.{StepTo, boxes-paired, askedEvent, wroteEvent, servedEvent, serve-step}
+use Rattle.agreement.proofs.History.{offered, quiet, Happening, History, Offered, offered-stays, toBox, registersOf, UsedBy, Paired, stations-stored, station-same, Shows, shows-kept, shows-same}
+use Rattle.agreement.proofs.Serves.{StepTo, seen, boxes-paired, askedEvent, wroteEvent, servedEvent, serve-step}
 use Rattle.agreement.proofs.Deliveries.{viewOf, heard-step}
 use Rattle.agreement.proofs.Issues.{issue-step}
 use Rattle.agreement.proofs.Decisions.{decision-step, abort-step}
 use Rattle.agreement.proofs.Begins.{begin-step}
 
--- What happens at a step. Only serves, issues and begins leave a trace in the history; every other step, refused ones too, is quiet.
-abbrev pub eventOf : {f : Floor} {c : Command} {s : Stepped} → StepCase f c s → Happening
-eventOf (turned k t) = note quiet
-eventOf (began {v = v} z d) = note (offered v)
-eventOf {f} (served {p = p} {a = a} {b = b} z d) = servedEvent f p a b
-eventOf (heard z d q) = note quiet
-eventOf {f} (cases.issued {a = a} {b = b} z d r q t) = issued (rowAt f a .rank) (revisionOf (heardRow f Read a b) (f .n))
-eventOf (decided z d r q t) = note quiet
-eventOf (aborted z d r q t) = note quiet
-eventOf (stopped z d) = note quiet
-eventOf (left z d) = note quiet
+-- what happens in the department d at a step of the department e: the event, or nothing where that is the other
+abbrev within : (d e : Department) → Happening → Happening
+within Sails Sails x = x
+within Sails Canvas x = note quiet
+within Canvas Sails x = note quiet
+within Canvas Canvas x = x
 
--- A floor that steps led to, with its history.
-pub record Reached (f : Floor) (l : History) : Type 0 where
+-- What happens in the department d at a step. Only serves, issues and begins leave a trace in the history; every other step, refused ones
+-- and those of the other department too, is quiet.
+abbrev pub eventOf : {f : Floor} {c : Command} {s : Stepped} → Department → StepCase f c s → Happening
+eventOf e (turned k t) = note quiet
+eventOf {f} e (began {s = s} {v = v} z d) = within e (departmentAt f s) (note (offered v))
+eventOf {f} e (served {p = p} {a = a} {b = b} z d) = within e (rowDepartment a) (servedEvent f p a b)
+eventOf e (heard z d q) = note quiet
+eventOf {f} e (cases.issued {a = a} {b = b} z d r q t) = within e (rowDepartment a) (issued (rowAt f a .rank) (revisionOf (heardRow f Read a b) (f .n)))
+eventOf e (decided z d r q t) = note quiet
+eventOf e (aborted z d r q t) = note quiet
+eventOf e (stopped z d) = note quiet
+eventOf e (left z d) = note quiet
+
+-- A floor that steps led to, with its history of the department d.
+pub record Reached (d : Department) (f : Floor) (l : History) : Type 0 where
   pub lengths : Lengths f
-  pub run : Run (f .n) _≡_ Offered (registersOf f) l
-  pub shows : Shows f l
+  pub owned : Owned f
+  pub run : Run (f .n) _≡_ Offered (registersOf d f) l
+  pub shows : Shows d f l
 
-pub reached-inv : {f : Floor} {l : History} → Reached f l → Inv (f .n) _≡_ (viewOf f l)
-reached-inv {f} k = run-inv (f .n) _≡_ Offered (equality .transitive) offered-stays (k .run)
+pub reached-inv : {d : Department} {f : Floor} {l : History} → Reached d f l → Inv (f .n) _≡_ (viewOf d f l)
+reached-inv {f = f} k = run-inv (f .n) _≡_ Offered (equality .transitive) offered-stays (k .run)
 
 -- a step that leaves the rows as they are
-module _ {f : Floor} {l : History} (s : Shows f l) where
-  refused-step : StepTo f l f (note quiet)
-  refused-step = record { step = other-event (λ j. refl); shows = shows-kept s (note quiet) (f .boxes) (f .stations) (s .paired) (λ j. refl) refl (s .stations) }
+module _ {d : Department} {f : Floor} {l : History} (s : Shows d f l) where
+  refused-step : StepTo d f l f (note quiet)
+  refused-step = record { step = other-event (λ j. refl); shows = shows-kept s (note quiet) (f .boxes) (f .stations) (s .paired) (λ j. (refl, refl)) refl (s .stations) }
 
-  stop-step : (b : ℕ) → StepTo f l (afterStop f b) (note quiet)
+  -- a box that stops keeps its records
+  stop-kept : (b : ℕ) → registerOf d (effects.stopped (boxAt f b)) ≡ registerAt f d b
+  stop-kept b = go d
+    where
+      go : (e : Department) → registerOf e (effects.stopped (boxAt f b)) ≡ registerAt f e b
+      go Sails = refl
+      go Canvas = refl
+
+  stop-step : (b : ℕ) → StepTo d f l (afterStop f b) (note quiet)
   stop-step b = record {
-    step = other-event (set-all box0 (λ (j : ℕ) (x : StorageBox). toBox x ≡ registersOf f j) (f .boxes) b _ (λ j. refl) refl);
-    shows = shows-kept s (note quiet) _ (f .stations) (boxes-paired s b (record { register = boxAt f b .register; stopped = true }) (s .paired b)) (λ j. refl) refl (s .stations);
+    step = other-event (set-all box0 (λ (j : ℕ) (x : StorageBox). seen d x ≡ registersOf d f j) (f .boxes) b _ (λ j. refl) (ap toBox (stop-kept b)));
+    shows = shows-kept s (note quiet) _ (f .stations) (boxes-paired s b (effects.stopped (boxAt f b)) (rw (stop-kept b) (s .paired b))) (λ j. (refl, refl)) refl (s .stations);
   }
 
-  leave-step : Lengths f → Sound f → (j : ℕ) → CanLeave f j → StepTo f l (afterLeave f j) (note quiet)
-  leave-step y z j d = record {
+  leave-step : Lengths f → Sound f → (j : ℕ) → CanLeave f j → StepTo d f l (afterLeave f j) (note quiet)
+  leave-step y z j k = record {
     step = other-event (λ i. refl);
-    shows = shows-kept s (note quiet) (f .boxes) _ (s .paired) (last-stored (f .stations) j (withState (stationAt f j) state.Gone) refl) refl
-        (stations-stored (f .used) (f .rows) (f .stations) j (withState (stationAt f j) state.Gone) (omega (arith, y .stations, d .station, z .station-most))
-        (λ i p. s .stations i) tt);
+    shows = shows-kept s (note quiet) (f .boxes) _ (s .paired) (station-same (f .stations) j (withState (stationAt f j) state.Gone) (refl, refl)) refl
+        (stations-stored d (UsedBy d f) (f .rows) (f .stations) j (withState (stationAt f j) state.Gone) (omega (arith, y .stations, k .station, z .station-most))
+        (λ i p. s .stations i) (λ _. tt));
   }
+
+  -- a step of the other department
+  other-step : {g : Floor} → Owned f → SameFor d f g → StepTo d f l g (note quiet)
+  other-step o k = record { step = other-event (λ j. ap toBox (k .registers j)); shows = shows-same s o k }
+
+-- A step of the department e, in the department d. One that leaves no trace,
+quiet-in : {f : Floor} {l : History} {c : Command} {s : Stepped} (x : StepCase f c s) → Owned f → (d e : Department) → Shows d f l → (isOf d e ≡ false → belongs f d c ≡ false)
+    → (Shows e f l → StepTo e f l (s .floor) (note quiet)) → StepTo d f l (s .floor) (note quiet)
+quiet-in x o Sails Sails w b t = t w
+quiet-in x o Canvas Canvas w b t = t w
+quiet-in x o Sails Canvas w b t = other-step w o (case-untouched x Sails o (b refl))
+quiet-in x o Canvas Sails w b t = other-step w o (case-untouched x Canvas o (b refl))
+
+-- and one that does
+traced-in : {f : Floor} {l : History} {c : Command} {s : Stepped} (x : StepCase f c s) → Owned f → (d e : Department) (h : Happening) → Shows d f l → (isOf d e ≡ false → belongs f d c ≡ false)
+    → (Shows e f l → StepTo e f l (s .floor) h) → StepTo d f l (s .floor) (within d e h)
+traced-in x o Sails Sails h w b t = t w
+traced-in x o Canvas Canvas h w b t = t w
+traced-in x o Sails Canvas h w b t = other-step w o (case-untouched x Sails o (b refl))
+traced-in x o Canvas Sails h w b t = other-step w o (case-untouched x Canvas o (b refl))
 
 -- each kind of step
-step-to : {f : Floor} {l : History} {c : Command} {s : Stepped} → Shows f l → Lengths f → (x : StepCase f c s) → StepTo f l (s .floor) (eventOf x)
-step-to w y (turned k t) = refused-step w
-step-to w y (began {s = s} {round = r} {v = v} z d) = begin-step w y z s r v d
-step-to w y (served {p = p} {a = a} {b = b} z d) = serve-step w y z a b p d
-step-to w y (heard {p = p} {a = a} {b = b} z d q) = heard-step w y z p a b d
-step-to w y (cases.issued {a = a} {b = b} z d r q t) = issue-step w y z a b d r q t
-step-to w y (decided {a = a} {b = b} z d r q t) = decision-step w y z a b d r
-step-to w y (aborted {p = p} {a = a} {b = b} z d r q t) = abort-step w y z p a b d
-step-to w y (stopped {b = b} z d) = stop-step w b
-step-to w y (left {s = s} z d) = leave-step w y z s d
+step-to : {f : Floor} {l : History} {c : Command} {s : Stepped} (e : Department) → Shows e f l → Owned f → Lengths f → (x : StepCase f c s) → StepTo e f l (s .floor) (eventOf e x)
+step-to e w o y (turned k t) = refused-step w
+step-to {f} e w o y (began {s = s} {round = r} {v = v} z d) = traced-in (began z d) o e (departmentAt f s) _ w (λ q. q) (λ k. begin-step s r v k y z d)
+step-to e w o y (served {p = p} {a = a} {b = b} z d) = traced-in (served z d) o e (rowDepartment a) _ w (λ q. q) (λ k. serve-step a b k y z p d)
+step-to e w o y (heard {p = p} {a = a} {b = b} z d q) = quiet-in (heard z d q) o e (rowDepartment a) w (λ q. q) (λ k. heard-step p a b k o y z d)
+step-to e w o y (cases.issued {a = a} {b = b} z d r q t) = traced-in (cases.issued z d r q t) o e (rowDepartment a) _ w (λ q. q) (λ k. issue-step a b k o y z d r q t)
+step-to e w o y (decided {a = a} {b = b} z d r q t) = quiet-in (decided z d r q t) o e (rowDepartment a) w (λ q. q) (λ k. decision-step a b k o y z d r)
+step-to e w o y (aborted {p = p} {a = a} {b = b} z d r q t) = quiet-in (aborted z d r q t) o e (rowDepartment a) w (λ q. q) (λ k. abort-step p a b k o y z d)
+step-to e w o y (stopped {b = b} z d) = stop-step w b
+step-to e w o y (left {s = s} z d) = leave-step w y z s d
 
-pub reached-next : {f : Floor} {l : History} {c : Command} {s : Stepped} → Reached f l → (x : StepCase f c s) → Lengths (s .floor) → s .floor .n ≡ f .n → Reached (s .floor) (eventOf x ∷ l)
-reached-next {l = l} {s = s} k x y n = let g = step-to (k .shows) (k .lengths) x in record {
+pub reached-next : {d : Department} {f : Floor} {l : History} {c : Command} {s : Stepped} → Reached d f l → (x : StepCase f c s) → Lengths (s .floor) → Owned (s .floor) → s .floor .n ≡ f .n
+    → Reached d (s .floor) (eventOf d x ∷ l)
+reached-next {d} {l = l} {s = s} k x y o n = let g = step-to d (k .shows) (k .owned) (k .lengths) x in record {
   lengths = y;
-  run = subst (λ (i : ℕ). Run i _≡_ Offered (registersOf (s .floor)) (eventOf x ∷ l)) (sym n) (next (k .run) (g .step));
+  owned = o;
+  run = subst (λ (i : ℕ). Run i _≡_ Offered (registersOf d (s .floor)) (eventOf d x ∷ l)) (sym n) (next (k .run) (g .step));
   shows = g .shows;
 }
 
--- What an event came of: a rank was served by a serve of its attempt, a revision was offered by a begin.
-pub record Serving (f : Floor) (c : Command) (o : Outcome) (r b : ℕ) : Type 0 where
+-- What an event in the department d came of: a rank was served by a serve of its attempt, a revision was offered by a begin.
+pub record Serving (d : Department) (f : Floor) (c : Command) (o : Outcome) (r b : ℕ) : Type 0 where
   pub attempt : ℕ
-  pub used : attempt < f .used
+  pub of : rowDepartment attempt ≡ d
+  pub used : InUse f attempt
   pub rank : rowAt f attempt .rank ≡ r
   pub phase : Phase
   pub asked : c ≡ Serve phase attempt b
   pub accepted : o ≡ said.Served attempt
 
-pub record Offering (c : Command) (o : Outcome) (v : ℕ) : Type 0 where
+pub record Offering (d : Department) (f : Floor) (c : Command) (o : Outcome) (v : ℕ) : Type 0 where
   pub station : ℕ
   pub round : ℕ
   pub number : ℕ
+  pub of : rowDepartment number ≡ d
   pub asked : c ≡ Begin station round v
   pub accepted : o ≡ said.Begun number
 
-abbrev pub Cause : Floor → Command → Outcome → Happening → Type 0
-Cause f c o (read r b w v) = Serving f c o r b
-Cause f c o (nack r b) = Unit {0}
-Cause f c o (issued r v) = Unit {0}
-Cause f c o (took r b) = Serving f c o r b
-Cause f c o (refused r b) = Unit {0}
-Cause f c o (note (offered v)) = Offering c o v
-Cause f c o (note quiet) = Unit {0}
+abbrev pub Cause : Department → Floor → Command → Outcome → Happening → Type 0
+Cause d f c o (read r b w v) = Serving d f c o r b
+Cause d f c o (nack r b) = Unit {0}
+Cause d f c o (issued r v) = Unit {0}
+Cause d f c o (took r b) = Serving d f c o r b
+Cause d f c o (refused r b) = Unit {0}
+Cause d f c o (note (offered v)) = Offering d f c o v
+Cause d f c o (note quiet) = Unit {0}
 
-read-cause : (f : Floor) (a b : ℕ) → a < f .used → (v : ReadAnswer) → Cause f (Serve Read a b) (said.Served a) (askedEvent v (rowAt f a .rank) b)
-read-cause f a b h (Held w v) = record { attempt = a; used = h; rank = refl; phase = Read; asked = refl; accepted = refl }
+read-cause : (f : Floor) (a b : ℕ) → InUse f a → (v : ReadAnswer) → Cause (rowDepartment a) f (Serve Read a b) (said.Served a) (askedEvent v (rowAt f a .rank) b)
+read-cause f a b h (Held w v) = record { attempt = a; of = refl; used = h; rank = refl; phase = Read; asked = refl; accepted = refl }
 read-cause f a b h Outranked = tt
 
-write-cause : (f : Floor) (a b : ℕ) → a < f .used → (t : Bool) → Cause f (Serve Write a b) (said.Served a) (wroteEvent t (rowAt f a .rank) b)
-write-cause f a b h true = record { attempt = a; used = h; rank = refl; phase = Write; asked = refl; accepted = refl }
+write-cause : (f : Floor) (a b : ℕ) → InUse f a → (t : Bool) → Cause (rowDepartment a) f (Serve Write a b) (said.Served a) (wroteEvent t (rowAt f a .rank) b)
+write-cause f a b h true = record { attempt = a; of = refl; used = h; rank = refl; phase = Write; asked = refl; accepted = refl }
 write-cause f a b h false = tt
 
-serve-cause : (f : Floor) (p : Phase) (a b : ℕ) → a < f .used → Cause f (Serve p a b) (said.Served a) (servedEvent f p a b)
-serve-cause f Read a b h = read-cause f a b h (rmwRead (boxAt f b .register) (rowAt f a .rank) .answer)
-serve-cause f Write a b h = write-cause f a b h (rmwWrite (boxAt f b .register) (rowAt f a .rank) (rowAt f a .written) .taken)
+serve-cause : (f : Floor) (p : Phase) (a b : ℕ) → InUse f a → Cause (rowDepartment a) f (Serve p a b) (said.Served a) (servedEvent f p a b)
+serve-cause f Read a b h = read-cause f a b h (rmwRead (servedBy f a b) (rowAt f a .rank) .answer)
+serve-cause f Write a b h = write-cause f a b h (rmwWrite (servedBy f a b) (rowAt f a .rank) (rowAt f a .written) .taken)
 
-pub cause : {f : Floor} {c : Command} {s : Stepped} → (x : StepCase f c s) → Cause f c (s .outcome) (eventOf x)
-cause (turned k t) = tt
-cause (began {s = s} {round = r} {v = v} z d) = record { station = s; round = r; number = _; asked = refl; accepted = refl }
-cause {f} (served {p = p} {a = a} {b = b} z d) = serve-cause f p a b (d .used)
-cause (heard z d q) = tt
-cause (cases.issued z d r q t) = tt
-cause (decided z d r q t) = tt
-cause (aborted z d r q t) = tt
-cause (stopped z d) = tt
-cause (left z d) = tt
+-- what is not of the department is quiet
+cause-in : (d e : Department) (f : Floor) (c : Command) (o : Outcome) (h : Happening) → Cause e f c o h → Cause d f c o (within d e h)
+cause-in Sails Sails f c o h k = k
+cause-in Sails Canvas f c o h k = tt
+cause-in Canvas Sails f c o h k = tt
+cause-in Canvas Canvas f c o h k = k
+
+pub cause : {f : Floor} {c : Command} {s : Stepped} (e : Department) (x : StepCase f c s) → Cause e f c (s .outcome) (eventOf e x)
+cause e (turned k t) = tt
+cause {f} e (began {s = s} {round = r} {v = v} z d) =
+    cause-in e (departmentAt f s) f _ _ (note (offered v))
+    (record { station = s; round = r; number = rowTaken f s; of = next-own f (departmentAt f s) (d .row); asked = refl; accepted = refl })
+cause {f} e (served {p = p} {a = a} {b = b} z d) = cause-in e (rowDepartment a) f _ _ (servedEvent f p a b) (serve-cause f p a b (d .used))
+cause e (heard z d q) = tt
+cause {f} e (cases.issued {a = a} z d r q t) = cause-in e (rowDepartment a) f _ _ (issued _ _) tt
+cause e (decided z d r q t) = tt
+cause e (aborted z d r q t) = tt
+cause e (stopped z d) = tt
+cause e (left z d) = tt
 
 -- A new floor: nothing has happened on it.
 pub record New (f : Floor) : Type 0 where
   pub lengths : Lengths f
-  pub unused : f .used ≡ 0
-  pub highest : f .highest ≡ 0
+  pub unused : (a : ℕ) → ¬ InUse f a
+  pub shares : (d : Department) → shareOf d f ≡ record { used = 0; highest = 0 }
   pub boxes : (b : ℕ) → boxAt f b ≡ box0
-  pub stations : (j : ℕ) → stationAt f j ≡ station0
+  pub stations : (j : ℕ) → stationAt f j ≡ newStation (departmentAt f j)
 
-pub new-floor : (n m : ℕ) → New (newFloorOf n m .floor)
-unfolding newFloorOf
-new-floor n m = by-test (λ (x : NewFloor). New (x .floor)) (sizesRight n m) _ _ (λ _. empty n m) (λ _. empty 1 1)
+pub new-floor : (n m : ℕ) (l : List ℕ) → New (newFloorOf n m l .floor)
+new-floor n m l = new-floor-by New n m l (λ _ _. empty n m l) (empty 1 1 [])
   where
-    empty : (n m : ℕ) → New (emptyFloor n m)
-    empty n m = record { lengths = empty-lengths n m; unused = refl; highest = refl; boxes = λ b. getD-same 9 b box0; stations = λ j. getD-same 16 j station0 }
+    empty : (n m : ℕ) (l : List ℕ) → New (emptyFloor n m l)
+    empty n m l = record {
+      lengths = empty-lengths n m l;
+      unused = empty-unused n m l;
+      shares = λ d. elim d [ Sails ↦ refl | Canvas ↦ refl ];
+      boxes = λ b. getD-same 9 b box0;
+      stations = told-at l (length l);
+    }
 
-pub new-reached : {f : Floor} → New f → Reached f []
-new-reached {f} x = record {
+pub new-reached : {f : Floor} (d : Department) → New f → Reached d f []
+new-reached {f} d x = record {
   lengths = x .lengths;
-  run = new (λ b. ap (λ (c : StorageBox). c .register .read) (x .boxes b)) (λ b. ap (λ (c : StorageBox). c .register .write) (x .boxes b));
+  owned = λ a h. absurd (x .unused a h);
+  run = new (λ b. ap (λ (c : StorageBox). registerOf d c .read) (x .boxes b) ∙ none d .0) (λ b. ap (λ (c : StorageBox). registerOf d c .write) (x .boxes b) ∙ none d .1);
   shows = record {
-    paired = λ b. rw (x .boxes b) (λ e. refl, λ h. h);
-    rows = λ a h. absurd (omega (arith, x .unused));
-    distinct = λ a c h. absurd (omega (arith, x .unused));
-    begun = λ a h. absurd (omega (arith, x .unused));
-    unbegun = λ r h e m. absurd (List·Memᴰ·not-nil m);
-    stations = λ j. rw (x .stations j) tt;
+    paired = λ b. rw (x .boxes b) (pair d);
+    rows = λ a h. absurd (x .unused a (h .1));
+    distinct = λ a c h. absurd (x .unused a (h .1));
+    begun = λ a h. absurd (x .unused a (h .1));
+    unbegun = λ r q h e m. absurd (List·Memᴰ·not-nil m);
+    stations = λ j q. rw (x .stations j) tt;
   };
 }
+  where
+    none : (d : Department) → (registerOf d box0 .read ≡ 0) × (registerOf d box0 .write ≡ 0)
+    none Sails = (refl, refl)
+    none Canvas = (refl, refl)
+
+    pair : (d : Department) → Paired (registerOf d box0 .write) (registerOf d box0 .value)
+    pair Sails = (λ e. refl, λ h. h)
+    pair Canvas = (λ e. refl, λ h. h)

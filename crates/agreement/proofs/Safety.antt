@@ -15,25 +15,26 @@ use Rattle.protocol.proofs.Instances.{consensus}
 use Rattle.requests.specs.Requests.{allYes}
 use Rattle.requests.specs.declared.Phase.{Phase}
 use Rattle.requests.specs.declared.Phase.the-variants.{Read, Write}
-use Rattle.floor.specs.Floors.{stationAt, rowAt}
+use Rattle.register.specs.declared.Department.{Department}
+use Rattle.floor.specs.Floors.{stationAt, rowAt, departmentAt, InUse}
 use Rattle.floor.specs.Step.{stepOf}
 use Rattle.floor.specs.Claims.{CanDeliver}
-use Rattle.attempts.specs.Rows.{requestsHeard}
+use Rattle.attempts.specs.Rows.{rowDepartment, requestsHeard}
 use Rattle.attempts.specs.declared.State.the-variants.{Decided}
 use Rattle.attempts.specs.declared.Station.{Station}
 use Rattle.floor.specs.declared.Floor.{Floor}
 use Rattle.commands.specs.declared.Command.the-variants.{Serve, Deliver}
 use Rattle.commands.specs.declared.Outcome.the-variants as said
 use Rattle.floor.proofs.StationLaws.{decided-from}
-use Rattle.agreement.specs.Words.{Before, commandAt, Attempt, Named, OfferedAt, ServedAt, DecidesAt, OutrankedAt, shownAt}
+use Rattle.agreement.specs.Words.{Before, commandAt, Attempt, attemptDepartment, Named, OfferedAt, ServedAt, DecidesAt, DecidedIn, OutrankedAt, shownAt, ShownAt}
 use Rattle.floor.specs.Runs.{floorAt, saidAt}
-use Rattle.agreement.specs.Demand.{firstFloor, Safety}
+use Rattle.agreement.specs.Demand.{Safety}
 use Rattle.agreement.proofs.History.{offered, Offered}
 use Rattle.agreement.proofs.Deliveries.{viewOf, owner-writes}
 use Rattle.agreement.proofs.Decisions.{decision-chosen, abort-refused, abort-told}
-use Rattle.agreement.proofs.Reach.{reached-inv, Serving, New, new-floor}
+use Rattle.agreement.proofs.Reach.{reached-inv, Serving, New}
 use Rattle.base.proofs.Cases.{up-to}
-use Rattle.agreement.proofs.Positions.{later, now, history, caused, still-happened, size-at, reached-at, means-at, row-at}
+use Rattle.agreement.proofs.Positions.{later, now, history, caused, still-happened, size-at, reached-at, owned-at, means-at, row-at}
 
 module _ (f : Floor) (l : List (List ℕ)) where
   -- one number names one attempt
@@ -46,55 +47,63 @@ module _ (f : Floor) (l : List (List ℕ)) where
   pub one-attempt : {i : ℕ} (x y : Attempt f l) → Named f l x i → Named f l y i → x .number ≡ y .number → x .station ≡ y .station
   one-attempt x y n m e = cc (x .asked, y .asked, ap (commandAt l) (one-begin x y n m e))
 
-  -- a revision is chosen before the step at i
-  abbrev ChosenAt : ℕ → ℕ → ℕ → Type 0
-  ChosenAt r v i = Chosen (floorAt f l i .n) (viewOf (floorAt f l i) (history f l i)) r v
+  -- a revision is chosen in the department before the step at i
+  abbrev ChosenAt : Department → ℕ → ℕ → ℕ → Type 0
+  ChosenAt d r v i = Chosen (floorAt f l i .n) (viewOf d (floorAt f l i) (history f l d i)) r v
 
   -- .. and before every later one
-  chosen-later : (i t r v : ℕ) → i ≤ t → ChosenAt r v i → ChosenAt r v t
-  chosen-later i t r v h c = record {
-    issued = still-happened f l i t h (c .issued);
-    taken = subst (λ (n : ℕ). Majority n (λ b. List·Memᴰ (took r b) (history f l t))) (size-at f l i ∙ sym (size-at f l t))
-        (majority-map (λ b m. still-happened f l i t h m) (c .taken));
+  chosen-later : (d : Department) (i t r v : ℕ) → i ≤ t → ChosenAt d r v i → ChosenAt d r v t
+  chosen-later d i t r v h c = record {
+    issued = still-happened f l d i t h (c .issued);
+    taken = subst (λ (n : ℕ). Majority n (λ b. List·Memᴰ (took r b) (history f l d t))) (size-at f l i ∙ sym (size-at f l t))
+        (majority-map (λ b m. still-happened f l d i t h m) (c .taken));
   }
 
   module _ (new : New f) where
-    -- a decision is of a revision that was chosen, and no revision is 0
-    chosen-at : (i v : ℕ) → saidAt f l i ≡ said.Decided v → (r : ℕ) × ChosenAt r v i
-    chosen-at i v e =
-        let m = means-at f l new i (said.Decided v) e in
-        let c = decision-chosen (reached-at f l new i .shows) (m .attempt) (m .box) (m .answer .may) (m .answer .writing) (m .answer .quorum) (m .taken) in
-        (rowAt (floorAt f l i) (m .attempt) .rank, subst (λ (u : ℕ). ChosenAt (rowAt (floorAt f l i) (m .attempt) .rank) u i) (sym (m .written)) c)
+    -- a decision is of a revision that was chosen in its department, and no revision is 0
+    chosen-at : (d : Department) (i v : ℕ) → DecidedIn f l d v i → (r : ℕ) × ChosenAt d r v i
+    chosen-at d i v e =
+        let m = means-at f l new i (said.Decided v) (e .accepted) in
+        let a = m .attempt in
+        let k : a ≡ e .number = cc (m .answer .command, e .asked) in
+        let q : rowDepartment a ≡ d = ap rowDepartment k ∙ e .of in
+        let c = decision-chosen a (m .box) (reached-at f l new (rowDepartment a) i .shows) (owned-at f l new i) (m .answer .may) (m .answer .writing) (m .answer .quorum) (m .taken) in (
+          rowAt (floorAt f l i) a .rank,
+          subst (λ (e : Department). ChosenAt e (rowAt (floorAt f l i) a .rank) v i) q
+              (subst (λ (u : ℕ). ChosenAt (rowDepartment a) (rowAt (floorAt f l i) a .rank) u i) (sym (m .written)) c),
+        )
 
     decided-positive : (i v : ℕ) → saidAt f l i ≡ said.Decided v → 0 < v
     decided-positive i v e =
         let m = means-at f l new i (said.Decided v) e in
-        omega (arith, m .written, owner-writes (reached-at f l new i .shows) (m .attempt) (m .answer .may .used) (m .answer .writing))
+        omega (arith, m .written, owner-writes (m .attempt) (reached-at f l new (rowDepartment (m .attempt)) i .shows) (owned-at f l new i) (m .answer .may .used) (m .answer .writing))
 
-    pub agreement : (i j u v : ℕ) → saidAt f l i ≡ said.Decided u → saidAt f l j ≡ said.Decided v → u ≡ v
-    agreement i j u v e g =
-        consensus (floorAt f l (i + j) .n) (reached-inv (reached-at f l new (i + j)))
-        (chosen-later i (i + j) _ u (omega arith) (chosen-at i u e .1))
-        (chosen-later j (i + j) _ v (omega arith) (chosen-at j v g .1))
+    pub agreement : (d : Department) (i j u v : ℕ) → DecidedIn f l d u i → DecidedIn f l d v j → u ≡ v
+    agreement d i j u v e g =
+        consensus (floorAt f l (i + j) .n) (reached-inv (reached-at f l new d (i + j)))
+        (chosen-later d i (i + j) _ u (omega arith) (chosen-at d i u e .1))
+        (chosen-later d j (i + j) _ v (omega arith) (chosen-at d j v g .1))
 
-    validity : (i v : ℕ) → saidAt f l i ≡ said.Decided v → Before (OfferedAt f l v) i
-    validity i v e =
-        let o = reached-inv (reached-at f l new i) .sound .offered _ v (chosen-at i v e .1 .issued) in
-        let x = caused f l (note (offered v)) i o in
+    validity : (d : Department) (i v : ℕ) → DecidedIn f l d v i → Before (OfferedAt f l d v) i
+    validity d i v e =
+        let o = reached-inv (reached-at f l new d i) .sound .offered _ v (chosen-at d i v e .1 .issued) in
+        let x = caused f l d (note (offered v)) i o in
         let y = x .holds in
         record {
           at = x .at;
           earlier = x .earlier;
           holds = record {
             attempt = record { at = x .at; station = y .station; round = y .round; offer = v; number = y .number; asked = y .asked; begun = y .accepted };
+            of = y .of;
             begun = refl;
             offer = refl;
           };
         }
 
-    pub served-at : (k r b : ℕ) → Serving (floorAt f l k) (commandAt l k) (saidAt f l k) r b → ServedAt f l r b k
-    served-at k r b x = let o = row-at f l new k (x .attempt) (x .used) in record {
+    pub served-at : (d : Department) (k r b : ℕ) → Serving d (floorAt f l k) (commandAt l k) (saidAt f l k) r b → ServedAt f l d r b k
+    served-at d k r b x = let o = row-at f l new k (x .attempt) (x .used) in record {
       attempt = o .attempt;
+      of = ap rowDepartment (o .number) ∙ x .of;
       named = o .named;
       rank = o .rank ∙ x .rank;
       phase = x .phase;
@@ -102,23 +111,23 @@ module _ (f : Floor) (l : List (List ℕ)) where
       accepted = x .accepted ∙ ap said.Served (sym (o .number));
     }
 
-    served-before : (i r b : ℕ) → Served (history f l i) r b → Before (ServedAt f l r b) i
-    served-before i r b (by-read {w = w} {v = v} m) =
-        let x = caused f l (read r b w v) i m in record { at = x .at; earlier = x .earlier; holds = served-at (x .at) r b (x .holds) }
-    served-before i r b (by-write m) =
-        let x = caused f l (took r b) i m in record { at = x .at; earlier = x .earlier; holds = served-at (x .at) r b (x .holds) }
+    served-before : (d : Department) (i r b : ℕ) → Served (history f l d i) r b → Before (ServedAt f l d r b) i
+    served-before d i r b (by-read {w = w} {v = v} m) =
+        let x = caused f l d (read r b w v) i m in record { at = x .at; earlier = x .earlier; holds = served-at d (x .at) r b (x .holds) }
+    served-before d i r b (by-write m) =
+        let x = caused f l d (took r b) i m in record { at = x .at; earlier = x .earlier; holds = served-at d (x .at) r b (x .holds) }
 
     -- what outranked an attempt that aborts: where its reads end, at a box that told so; where its writes end, at a box that refused
     outranked-by : (i a b : ℕ) (p : Phase) → CanDeliver (floorAt f l i) p a b → allYes (requestsHeard p (rowAt (floorAt f l i) a) b) (floorAt f l i .n) ≡ false
-        → (c : ℕ) × Outranked (history f l i) (rowAt (floorAt f l i) a .rank) c
+        → (c : ℕ) × Outranked (history f l (rowDepartment a) i) (rowAt (floorAt f l i) a .rank) c
     outranked-by i a b Read d t =
-        let k = reached-at f l new i in
-        let c = abort-told (k .shows) a b d t in
+        let k = reached-at f l new (rowDepartment a) i in
+        let c = abort-told a b (k .shows) d t in
         (c .0, nack-outranked (floorAt f l i .n) _≡_ Offered (k .run) (rowAt (floorAt f l i) a .rank) (c .0) (c .1))
     outranked-by i a b Write d t =
-        let k = reached-at f l new i in
-        let c = abort-refused (k .shows) a b d t in
-        (c .0, outranked (floorAt f l i .n) _≡_ Offered (k .run) (rowAt (floorAt f l i) a .rank) (c .0) (k .shows .rows a (d .used) .positive) (c .1) (c .2))
+        let k = reached-at f l new (rowDepartment a) i in
+        let c = abort-refused a b (k .shows) (k .owned) d t in
+        (c .0, outranked (floorAt f l i .n) _≡_ Offered (k .run) (rowAt (floorAt f l i) a .rank) (c .0) (k .shows .rows a (refl, d .used) .positive) (c .1) (c .2))
 
     abort : (i a : ℕ) → saidAt f l i ≡ said.Aborted a → OutrankedAt f l i
     abort i a e =
@@ -137,11 +146,11 @@ module _ (f : Floor) (l : List (List ℕ)) where
           rank = c .1 .rank;
           box = c .0;
           higher = omega (arith, c .1 .higher, o .rank);
-          served = served-before i (c .1 .rank) (c .0) (c .1 .served);
+          served = subst (λ (d : Department). Before (ServedAt f l d (c .1 .rank) (c .0)) i) (ap rowDepartment (sym (o .number))) (served-before (rowDepartment a) i (c .1 .rank) (c .0) (c .1 .served));
         }
 
     -- the delivery that says decided, of an attempt whose row is the station's
-    pub decides-at : (k s v a b : ℕ) → commandAt l k ≡ Deliver Write a b → a < floorAt f l k .used → rowAt (floorAt f l k) a .station ≡ s → saidAt f l k ≡ said.Decided v
+    pub decides-at : (k s v a b : ℕ) → commandAt l k ≡ Deliver Write a b → InUse (floorAt f l k) a → rowAt (floorAt f l k) a .station ≡ s → saidAt f l k ≡ said.Decided v
         → DecidesAt f l s v k
     decides-at k s v a b c u q e = let o = row-at f l new k a u in record {
       attempt = o .attempt;
@@ -169,9 +178,9 @@ module _ (f : Floor) (l : List (List ℕ)) where
     -- the step by which the station s decides v: its row, and the station after it
     pub record Decider (s v i : ℕ) : Type 0 where
       pub row : ℕ
-      pub used : row < floorAt f l i .used
+      pub used : InUse (floorAt f l i) row
       pub owner : rowAt (floorAt f l i) row .station ≡ s
-      pub settled : stationAt (floorAt f l (suc i)) s ≡ record { state = Decided row; last = stationAt (floorAt f l i) s .last; decided = v }
+      pub settled : stationAt (floorAt f l (suc i)) s ≡ record { department = departmentAt (floorAt f l i) s; state = Decided row; last = stationAt (floorAt f l i) s .last; decided = v }
 
     pub decider-at : (s v i : ℕ) → DecidesAt f l s v i → Decider s v i
     decider-at s v i d =
@@ -183,8 +192,8 @@ module _ (f : Floor) (l : List (List ℕ)) where
           row = m .attempt;
           used = m .answer .may .used;
           owner = q;
-          settled = subst (λ (j : ℕ). stationAt (floorAt f l (suc i)) j ≡ record { state = Decided (m .attempt); last = stationAt (floorAt f l i) j .last; decided = v }) q
-              (m .owner ∙ ap (λ (u : ℕ). record { state = Decided (m .attempt); last = stationAt (floorAt f l i) (rowAt (floorAt f l i) (m .attempt) .station) .last; decided = u }) (sym (m .written)));
+          settled = subst (λ (j : ℕ). stationAt (floorAt f l (suc i)) j ≡ record { department = departmentAt (floorAt f l i) j; state = Decided (m .attempt); last = stationAt (floorAt f l i) j .last; decided = v }) q
+              (m .owner ∙ ap (λ (u : ℕ). record { department = departmentAt (floorAt f l i) (rowAt (floorAt f l i) (m .attempt) .station); state = Decided (m .attempt); last = stationAt (floorAt f l i) (rowAt (floorAt f l i) (m .attempt) .station) .last; decided = u }) (sym (m .written)));
         }
 
     -- a station that decided shows a revision at once, and from then on
@@ -202,13 +211,15 @@ module _ (f : Floor) (l : List (List ℕ)) where
       ]
     ]
 
-pub safety : (n m : ℕ) (l : List (List ℕ)) → Safety n m l
-safety n m l = let f = firstFloor n m in let new = new-floor n m in record {
-  agreement = agreement f l new;
-  validity = validity f l new;
-  abort = abort f l new;
-  shown = λ s i. record {
-    decided = shown-decided f l new s i;
-    none = λ e v x. omega (arith, shown-still f l new s v (x .at) i (x .holds) (x .earlier));
-  };
-}
+    -- a decision of a station is one in the department of its attempt
+    pub decided-in : (s v i : ℕ) (x : DecidesAt f l s v i) → DecidedIn f l (attemptDepartment f l (x .attempt)) v i
+    decided-in s v i x = record { number = x .attempt .number; box = x .box; of = refl; asked = x .asked; accepted = x .accepted }
+
+    pub shown : (s i : ℕ) → ShownAt f l s i
+    shown s i = record {
+      decided = shown-decided s i;
+      none = λ e v x. omega (arith, shown-still s v (x .at) i (x .holds) (x .earlier));
+    }
+
+    pub safety : (d : Department) → Safety f l d
+    safety d = record { agreement = agreement d; validity = validity d; abort = λ i a _. abort i a }

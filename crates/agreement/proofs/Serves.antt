@@ -9,7 +9,9 @@ use mathlib.Core.List.{_∷_, List·Memᴰ, List·Memᴰ·head, List·Memᴰ·ta
 use lib.ListN.{length, getD, set}
 use lib.Seq.{getD-set-same, getD-set-other}
 use Rattle.base.proofs.Choices.{by-test}
-use Rattle.register.specs.Register.{isHeld, rankIn, valueIn, rmwRead, takes, rmwWrite, box0, withRegister}
+use Rattle.register.specs.Register.{registerOf, boxWith, isHeld, rankIn, valueIn, rmwRead, takes, rmwWrite, box0}
+use Rattle.register.specs.declared.Department.{Department}
+use Rattle.register.proofs.DepartmentLaws.{box-own}
 use Rattle.register.specs.declared.Register.{Register}
 use Rattle.register.specs.declared.StorageBox.{StorageBox}
 use Rattle.register.specs.declared.ReadAnswer.{ReadAnswer}
@@ -23,8 +25,9 @@ use Rattle.requests.specs.declared.Phase.{Phase}
 use Rattle.requests.specs.declared.Phase.the-variants.{Read, Write}
 use Rattle.requests.specs.declared.Slot.{Slot}
 use Rattle.requests.specs.declared.Requests.{Requests}
-use Rattle.attempts.specs.Rows.{answer0, withRequests, answerOf}
-use Rattle.floor.specs.Floors.{boxAt, stationAt, rowAt, withBox, withRow}
+use Rattle.attempts.specs.Rows.{answer0, rowDepartment, withRequests, answerOf}
+use Rattle.floor.specs.Floors.{boxAt, stationAt, rowAt, departmentAt, InUse, withRegister, withRow}
+use Rattle.floor.proofs.UseLaws.{in-use-most}
 use Rattle.floor.specs.Claims.{Sound, Lengths, CanServe}
 use Rattle.requests.specs.declared.Stage.the-variants.{Answered}
 use Rattle.attempts.specs.declared.Answer.{Answer}
@@ -32,33 +35,39 @@ use Rattle.attempts.specs.declared.Row.{Row}
 use Rattle.floor.specs.declared.Floor.{Floor}
 use Rattle.base.proofs.Cases.{clash}
 use Rattle.requests.proofs.Standings.{waits-means}
-use Rattle.floor.specs.Effects.{afterServe}
+use Rattle.floor.specs.Effects.{servedBy, afterServe}
 use Rattle.base.proofs.Stores.{set-all, set-in}
 use Rattle.agreement.proofs.Edits.{edit-set}
-use Rattle.agreement.proofs.History.{Happening, History, Offered, toBox, registersOf, writerOf, isAnswered, isIssued, Paired, RowShows, StationShows, station-kept-by, Shows, reads-more, writes-more, shows-stored}
+use Rattle.agreement.proofs.History.{UsedBy, Happening, History, Offered, toBox, registersOf, writerOf, isAnswered, isIssued, Paired, RowShows, StationShows, station-kept-by, Shows, reads-more, writes-more, shows-stored}
 
--- From the floor f with the history l to the floor g with the event e.
-pub record StepTo (f : Floor) (l : History) (g : Floor) (e : Happening) : Type 0 where
-  pub step : Step (f .n) _≡_ Offered (registersOf f) l (registersOf g) e
-  pub shows : Shows g (e ∷ l)
+-- In the department d, from the floor f with the history l to the floor g with the event e.
+pub record StepTo (d : Department) (f : Floor) (l : History) (g : Floor) (e : Happening) : Type 0 where
+  pub step : Step (f .n) _≡_ Offered (registersOf d f) l (registersOf d g) e
+  pub shows : Shows d g (e ∷ l)
+
+-- the record of a box for the department
+abbrev pub seen : Department → StorageBox → Box ℕ
+seen d x = toBox (registerOf d x)
 
 -- a box is stored, as the theory sees it
-box-edit : (f : Floor) (b : ℕ) (x : StorageBox) → b < 9 → Lengths f → (g : Box ℕ → Box ℕ) → toBox x ≡ g (toBox (boxAt f b)) → (j : ℕ)
-    → Edit (registersOf f) (λ k. toBox (getD (set (f .boxes) b x) k box0)) b g j
-box-edit f b x h y g e j = elim (edit-set box0 (f .boxes) b x (omega (arith, y .boxes)) j) [
-  | there p q ↦ there p (ap toBox q ∙ e ∙ ap (λ (k : ℕ). g (toBox (boxAt f k))) (sym p))
-  | other p q ↦ other p (ap toBox q)
+box-edit : (d : Department) (f : Floor) (b : ℕ) (x : StorageBox) → b < 9 → Lengths f → (g : Box ℕ → Box ℕ) → seen d x ≡ g (registersOf d f b) → (j : ℕ)
+    → Edit (registersOf d f) (λ k. seen d (getD (set (f .boxes) b x) k box0)) b g j
+box-edit d f b x h y g e j = elim (edit-set box0 (f .boxes) b x (omega (arith, y .boxes)) j) [
+  | there p q ↦ there p (ap (seen d) q ∙ e ∙ ap (λ (k : ℕ). g (registersOf d f k)) (sym p))
+  | other p q ↦ other p (ap (seen d) q)
 ]
 
-pub boxes-paired : {f : Floor} {l : History} → Shows f l → (b : ℕ) (x : StorageBox) → Paired (x .register .write) (x .register .value) → (j : ℕ)
-    → Paired (getD (set (f .boxes) b x) j box0 .register .write) (getD (set (f .boxes) b x) j box0 .register .value)
-boxes-paired {f} s b x p = set-all box0 (λ (j : ℕ) (c : StorageBox). Paired (c .register .write) (c .register .value)) (f .boxes) b x (s .paired) p
+abbrev BoxPaired : Department → StorageBox → Type 0
+BoxPaired d x = Paired (registerOf d x .write) (registerOf d x .value)
+
+pub boxes-paired : {d : Department} {f : Floor} {l : History} → Shows d f l → (b : ℕ) (x : StorageBox) → BoxPaired d x → (j : ℕ) → BoxPaired d (getD (set (f .boxes) b x) j box0)
+boxes-paired {d} {f} s b x p = set-all box0 (λ (j : ℕ) (c : StorageBox). BoxPaired d c) (f .boxes) b x (s .paired) p
 
 -- a row is stored that has the same station and has written as much: the stations stay where they are
-pub stations-kept : {f : Floor} {l : History} → Shows f l → (a : ℕ) (w : Row) → w .station ≡ rowAt f a .station → w .written ≡ rowAt f a .written → (j : ℕ)
-    → StationShows (f .used) (set (f .rows) a w) j (stationAt f j .decided) (stationAt f j .state)
-stations-kept {f} s a w p q j =
-    station-kept-by (f .used) (f .used) (f .rows) a w j (stationAt f j .decided) (le-refl (f .used)) (stationAt f j .state) (λ _ _ h. (p ∙ h, q)) (s .stations j)
+pub stations-kept : {d : Department} {f : Floor} {l : History} → Shows d f l → (a : ℕ) (w : Row) → w .station ≡ rowAt f a .station → w .written ≡ rowAt f a .written → (j : ℕ)
+    → departmentAt f j ≡ d → StationShows (UsedBy d f) (set (f .rows) a w) j (stationAt f j .decided) (stationAt f j .state)
+stations-kept {d} {f} s a w p q j e =
+    station-kept-by (UsedBy d f) (UsedBy d f) (f .rows) a w j (stationAt f j .decided) (λ i h. h) (stationAt f j .state) (λ _ _ h. (p ∙ h, q)) (s .stations j e)
 
 -- the read of rank r was served at the box b: answered, or told that it is outranked
 abbrev pub askedEvent : ReadAnswer → ℕ → ℕ → Happening
@@ -66,7 +75,7 @@ askedEvent (Held w v) r b = read r b w v
 askedEvent Outranked r b = nack r b
 
 abbrev pub readEvent : Floor → ℕ → ℕ → Happening
-readEvent f a b = askedEvent (rmwRead (boxAt f b .register) (rowAt f a .rank) .answer) (rowAt f a .rank) b
+readEvent f a b = askedEvent (rmwRead (servedBy f a b) (rowAt f a .rank) .answer) (rowAt f a .rank) b
 
 -- the write of rank r was served at the box b: taken or not
 abbrev pub wroteEvent : Bool → ℕ → ℕ → Happening
@@ -74,7 +83,7 @@ wroteEvent true r b = took r b
 wroteEvent false r b = refused r b
 
 abbrev pub writeEvent : Floor → ℕ → ℕ → Happening
-writeEvent f a b = wroteEvent (rmwWrite (boxAt f b .register) (rowAt f a .rank) (rowAt f a .written) .taken) (rowAt f a .rank) b
+writeEvent f a b = wroteEvent (rmwWrite (servedBy f a b) (rowAt f a .rank) (rowAt f a .written) .taken) (rowAt f a .rank) b
 
 abbrev pub servedEvent : Floor → Phase → ℕ → ℕ → Happening
 servedEvent f p a b = ofPhase p (readEvent f a b) (writeEvent f a b)
@@ -97,7 +106,20 @@ write-view : (x : Register) (r v : ℕ) → Written x r v (rmwWrite x r v)
 unfolding rmwWrite
 write-view x r v = by-test (Written x r v) (takes x r) _ _ (λ e. let p = takes-means x r e in stored (p .0) (p .1)) (λ e. kept (takes-not x r e))
 
-module _ {f : Floor} {l : History} (s : Shows f l) (y : Lengths f) (z : Sound f) (a b : ℕ) where
+module _ {f : Floor} {l : History} (a b : ℕ) (s : Shows (rowDepartment a) f l) (y : Lengths f) (z : Sound f) where
+  abbrev own : Department
+  own = rowDepartment a
+
+  abbrev held : Register
+  held = servedBy f a b
+
+  -- the box with the record that the routine left
+  abbrev after : Register → StorageBox
+  after r = boxWith own (boxAt f b) r (boxAt f b .stopped)
+
+  stored-paired : (r : Register) → Paired (r .write) (r .value) → BoxPaired own (after r)
+  stored-paired r p = rw (box-own own (boxAt f b) r (boxAt f b .stopped)) p
+
   module _ (d : CanServe f Read a b) where
     abbrev asked : ℕ
     asked = rowAt f a .rank
@@ -116,7 +138,7 @@ module _ {f : Floor} {l : History} (s : Shows f l) (y : Lengths f) (z : Sound f)
         }
 
     abbrev floorAsked : ReadDone → Floor
-    floorAsked x = withRow (withBox f b (withRegister (boxAt f b) (x .register))) a (rowAsked x)
+    floorAsked x = withRow (withRegister own f b (x .register)) a (rowAsked x)
 
     abbrev slotAsked : ReadDone → Slot
     slotAsked x = record { stage = Answered; ok = isHeld (x .answer) }
@@ -143,19 +165,19 @@ module _ {f : Floor} {l : History} (s : Shows f l) (y : Lengths f) (z : Sound f)
 
       answer-now : isHeld (x .answer) ≡ true → ReadAt b (getD (set (rowAt f a .answers) b (answerOf x)) b answer0)
       answer-now e =
-          rw (getD-set-same (rowAt f a .answers) b (answerOf x) answer0 (omega (arith, y .answers a (omega (arith, d .used, z .rows-most)), d .box, z .box-most)))
+          rw (getD-set-same (rowAt f a .answers) b (answerOf x) answer0 (omega (arith, y .answers a (in-use-most f z a (d .used)), d .box, z .box-most)))
           (given (x .answer) e)
 
       answer-before : (j : ℕ) → ¬ (j ≡ b) → isAnswered (slotAt (rowAt f a .read) j .stage) ≡ true → slotAt (rowAt f a .read) j .ok ≡ true
           → ReadAt j (getD (set (rowAt f a .answers) b (answerOf x)) j answer0)
       answer-before j n h e =
-          rw (getD-set-other (rowAt f a .answers) b j (answerOf x) answer0 n) (List·Memᴰ·tail (s .rows a (d .used) .reads .answered j h e))
+          rw (getD-set-other (rowAt f a .answers) b j (answerOf x) answer0 n) (List·Memᴰ·tail (s .rows a (refl, d .used) .reads .answered j h e))
 
       slots : length (rowAt f a .read .slots) ≡ 9
-      slots = y .slots Read a (omega (arith, d .used, z .rows-most))
+      slots = y .slots Read a (in-use-most f z a (d .used))
 
       asked-row : Paired (rankIn (x .answer)) (valueIn (x .answer)) → RowShows (rowAsked x) (now ∷ l)
-      asked-row p = let r = s .rows a (d .used) in record {
+      asked-row p = let r = s .rows a (refl, d .used) in record {
         positive = r .positive;
         place = r .place;
         revision = r .revision;
@@ -172,27 +194,26 @@ module _ {f : Floor} {l : History} (s : Shows f l) (y : Lengths f) (z : Sound f)
         writes = writes-more now (λ q. omega (arith, silent (x .answer))) (r .writes);
       }
 
-      asked-shows : Paired (rankIn (x .answer)) (valueIn (x .answer)) → Paired (x .register .write) (x .register .value) → Shows (floorAsked x) (now ∷ l)
+      asked-shows : Paired (rankIn (x .answer)) (valueIn (x .answer)) → Paired (x .register .write) (x .register .value) → Shows own (floorAsked x) (now ∷ l)
       asked-shows p q =
-          shows-stored s now _ (f .stations) (boxes-paired s b (withRegister (boxAt f b) (x .register)) q) (λ j. refl)
-          y a (d .used) (z .rows-most) _ refl (λ r e. absurd (omega (arith, silent (x .answer)))) (asked-row p) (stations-kept s a _ refl refl)
+          shows-stored s now _ (f .stations) (boxes-paired s b (after (x .register)) (stored-paired (x .register) q)) (λ j. (refl, refl))
+          y a (refl, d .used) (in-use-most f z a (d .used)) _ refl (λ r e. absurd (omega (arith, silent (x .answer)))) (asked-row p) (stations-kept s a _ refl refl)
 
-    serve-asked : {x : ReadDone} → ReadCase (boxAt f b .register) asked x → StepTo f l (floorAsked x) (askedEvent (x .answer) asked b)
+    serve-asked : {x : ReadDone} → ReadCase held asked x → StepTo own f l (floorAsked x) (askedEvent (x .answer) asked b)
     serve-asked (outranked h) = record {
-      step = serve-nack (set-all box0 (λ (j : ℕ) (c : StorageBox). toBox c ≡ registersOf f j) (f .boxes) b (boxAt f b) (λ j. refl) refl) h;
-      shows = asked-shows (record { register = boxAt f b .register; answer = Outranked }) (λ _. refl, λ h. h) (s .paired b);
+      step = serve-nack (set-all box0 (λ (j : ℕ) (c : StorageBox). seen own c ≡ registersOf own f j) (f .boxes) b (after held) (λ j. refl)
+          (ap toBox (box-own own (boxAt f b) held (boxAt f b .stopped)))) h;
+      shows = asked-shows (record { register = held; answer = Outranked }) (λ _. refl, λ h. h) (s .paired b);
     }
-    serve-asked (answered h k) = record {
-      step = serve-read (box-edit f b _ (omega (arith, d .box, z .box-most)) y (readBox asked)
-          (ap (λ (i : ℕ). record { readRank = i; writeRank = boxAt f b .register .write; value = boxAt f b .register .value }) (sym (max-eq-right h)))) refl refl;
-      shows = asked-shows (record {
-        register = record { read = asked; write = boxAt f b .register .write; value = boxAt f b .register .value };
-        answer = Held (boxAt f b .register .write) (boxAt f b .register .value);
-      }) (s .paired b) (s .paired b);
+    serve-asked (answered h k) = let got : Register = record { read = asked; write = held .write; value = held .value } in record {
+      step = serve-read (box-edit own f b (after got) (omega (arith, d .box, z .box-most)) y (readBox asked)
+          (ap toBox (box-own own (boxAt f b) got (boxAt f b .stopped))
+          ∙ ap (λ (i : ℕ). record { readRank = i; writeRank = held .write; value = held .value }) (sym (max-eq-right h)))) refl refl;
+      shows = asked-shows (record { register = got; answer = Held (held .write) (held .value) }) (s .paired b) (s .paired b);
     }
 
-    read-step : StepTo f l (afterServe f Read a b) (readEvent f a b)
-    read-step = serve-asked (read-case (boxAt f b .register) asked)
+    read-step : StepTo own f l (afterServe f Read a b) (readEvent f a b)
+    read-step = serve-asked (read-case held asked)
 
   module _ (d : CanServe f Write a b) where
     abbrev rank : ℕ
@@ -202,7 +223,7 @@ module _ {f : Floor} {l : History} (s : Shows f l) (y : Lengths f) (z : Sound f)
     requests = rowAt f a .write
 
     issued-then : 0 < rowAt f a .written
-    issued-then = s .rows a (d .used) .writes .after-issue b (ap isIssued (waits-means (slotAt requests b .stage) (requests .heard) b (d .waits) .0))
+    issued-then = s .rows a (refl, d .used) .writes .after-issue b (ap isIssued (waits-means (slotAt requests b .stage) (requests .heard) b (d .waits) .0))
 
     not-answered : isAnswered (slotAt requests b .stage) ≡ false
     not-answered = ap isAnswered (waits-means (slotAt requests b .stage) (requests .heard) b (d .waits) .0)
@@ -211,7 +232,7 @@ module _ {f : Floor} {l : History} (s : Shows f l) (y : Lengths f) (z : Sound f)
     slot t = record { stage = Answered; ok = t }
 
     write-row : (t : Bool) → RowShows (withRequests Write (rowAt f a) (servedAt requests b t)) (wroteEvent t rank b ∷ l)
-    write-row t = let r = s .rows a (d .used) in record {
+    write-row t = let r = s .rows a (refl, d .used) in record {
       positive = r .positive;
       place = r .place;
       revision = r .revision;
@@ -228,7 +249,7 @@ module _ {f : Floor} {l : History} (s : Shows f l) (y : Lengths f) (z : Sound f)
         refusal = set-all slot0 (λ (j : ℕ) (x : Slot). isAnswered (x .stage) ≡ true → x .ok ≡ false → List·Memᴰ (refused rank j) (wroteEvent t rank b ∷ l)) (requests .slots) b (slot t)
             (λ j h e. List·Memᴰ·tail (r .writes .refusal j h e)) (λ _ e. List·Memᴰ·head (ap (λ (x : Bool). wroteEvent x rank b) (sym e)));
         only = set-in slot0 (λ (j : ℕ) (x : Slot). List·Memᴰ (took rank j) (wroteEvent t rank b ∷ l) → (isAnswered (x .stage) ≡ true) × (x .ok ≡ true)) (requests .slots) b (slot t)
-            (omega (arith, y .slots Write a (omega (arith, d .used, z .rows-most)), d .box, z .box-most))
+            (omega (arith, y .slots Write a (in-use-most f z a (d .used)), d .box, z .box-most))
             (λ j p m. elim (List·Memᴰ·cases-cons m) [ inl q ↦ absurd (p (wrote-head t rank b j q .0)) | inr o ↦ r .writes .only j o ])
             (λ m. elim (List·Memᴰ·cases-cons m) [ inl q ↦ (refl, wrote-head t rank b b q .1) | inr o ↦ clash (r .writes .only b o .0) not-answered ]);
       };
@@ -236,26 +257,28 @@ module _ {f : Floor} {l : History} (s : Shows f l) (y : Lengths f) (z : Sound f)
 
     -- the floor after the write was served, by what the register did
     abbrev served : WriteDone → Floor
-    served w = withRow (withBox f b (withRegister (boxAt f b) (w .register))) a (withRequests Write (rowAt f a) (servedAt requests b (w .taken)))
+    served w = withRow (withRegister own f b (w .register)) a (withRequests Write (rowAt f a) (servedAt requests b (w .taken)))
 
-    served-shows : (w : WriteDone) → Paired (w .register .write) (w .register .value) → Shows (served w) (wroteEvent (w .taken) rank b ∷ l)
+    served-shows : (w : WriteDone) → Paired (w .register .write) (w .register .value) → Shows own (served w) (wroteEvent (w .taken) rank b ∷ l)
     served-shows w p =
-        shows-stored s (wroteEvent (w .taken) rank b) _ (f .stations) (boxes-paired s b (withRegister (boxAt f b) (w .register)) p) (λ j. refl)
-        y a (d .used) (z .rows-most) _ refl (wrote-own (w .taken) rank b) (write-row (w .taken)) (stations-kept s a _ refl refl)
+        shows-stored s (wroteEvent (w .taken) rank b) _ (f .stations) (boxes-paired s b (after (w .register)) (stored-paired (w .register) p)) (λ j. (refl, refl))
+        y a (refl, d .used) (in-use-most f z a (d .used)) _ refl (wrote-own (w .taken) rank b) (write-row (w .taken)) (stations-kept s a _ refl refl)
 
-    serve-write : {w : WriteDone} → Written (boxAt f b .register) rank (rowAt f a .written) w → StepTo f l (served w) (wroteEvent (w .taken) rank b)
-    serve-write (stored p q) = record {
-      step = take (s .rows a (d .used) .writes .issue issued-then) p q (box-edit f b _ (omega (arith, d .box, z .box-most)) y (writeBox rank (rowAt f a .written)) refl);
-      shows = served-shows _ (λ e. absurd (omega (arith, s .rows a (d .used) .positive)), λ _. issued-then);
+    serve-write : {w : WriteDone} → Written held rank (rowAt f a .written) w → StepTo own f l (served w) (wroteEvent (w .taken) rank b)
+    serve-write (stored p q) = let got : Register = record { read = held .read; write = rank; value = rowAt f a .written } in record {
+      step = take (s .rows a (refl, d .used) .writes .issue issued-then) p q
+          (box-edit own f b (after got) (omega (arith, d .box, z .box-most)) y (writeBox rank (rowAt f a .written)) (ap toBox (box-own own (boxAt f b) got (boxAt f b .stopped))));
+      shows = served-shows _ (λ e. absurd (omega (arith, s .rows a (refl, d .used) .positive)), λ _. issued-then);
     }
     serve-write (kept h) = record {
-      step = refuse (set-all box0 (λ (j : ℕ) (x : StorageBox). toBox x ≡ registersOf f j) (f .boxes) b (boxAt f b) (λ j. refl) refl) h;
-      shows = served-shows (record { register = boxAt f b .register; taken = false }) (s .paired b);
+      step = refuse (set-all box0 (λ (j : ℕ) (x : StorageBox). seen own x ≡ registersOf own f j) (f .boxes) b (after held) (λ j. refl)
+          (ap toBox (box-own own (boxAt f b) held (boxAt f b .stopped)))) h;
+      shows = served-shows (record { register = held; taken = false }) (s .paired b);
     }
 
-    write-step : StepTo f l (afterServe f Write a b) (writeEvent f a b)
-    write-step = serve-write (write-view (boxAt f b .register) rank (rowAt f a .written))
+    write-step : StepTo own f l (afterServe f Write a b) (writeEvent f a b)
+    write-step = serve-write (write-view held rank (rowAt f a .written))
 
-  pub serve-step : (p : Phase) → CanServe f p a b → StepTo f l (afterServe f p a b) (servedEvent f p a b)
+  pub serve-step : (p : Phase) → CanServe f p a b → StepTo own f l (afterServe f p a b) (servedEvent f p a b)
   serve-step Read d = read-step d
   serve-step Write d = write-step d

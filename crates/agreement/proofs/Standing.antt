@@ -4,7 +4,7 @@ use Prim.Native.Nat.{ℕ, zero, suc, _<_, _≤_, max}
 use native.Mathlib.Omega.{arith}
 use mathlib.Core.Path.{_≡_, refl, sym, ap, subst, _∙_}
 use mathlib.Core.Logic.{_⊎_, inl, inr}
-use mathlib.Core.Bool.{true}
+use mathlib.Core.Bool.{true, false}
 use mathlib.Core.List.{List, []}
 use native.Mathlib.Decide.{decLt}
 use lib.ListN.{getD}
@@ -12,47 +12,63 @@ use borrow.Author.Tests.{eqb-true, eq-eqb}
 use Rattle.base.specs.Numbers.{rankOf}
 use Rattle.register.specs.declared.StorageBox.{StorageBox}
 use Rattle.base.specs.Quorum.{count, indicator}
-use Rattle.base.proofs.Choices.{on-true, on-false}
-use Rattle.floor.specs.Floors.{boxAt, stationAt, rowAt}
+use Rattle.register.specs.declared.Department.{Department}
+use Rattle.register.proofs.DepartmentLaws.{is-same, same-is}
+use Rattle.attempts.specs.Rows.{rowDepartment, usedAfter}
+use Rattle.floor.specs.Floors.{boxAt, stationAt, rowAt, departmentAt, shareOf, usedOf, highestOf, InUse}
+use Rattle.floor.specs.Effects.{rowTaken}
+use Rattle.floor.specs.declared.Share.{Share}
+use Rattle.floor.proofs.FreeLaws.{next-own}
 use Rattle.attempts.specs.Stations.{isGone, isActive}
 use Rattle.attempts.proofs.UsedLaws.{used-more, used-full}
-use Rattle.commands.specs.Outcomes.{isBegun}
 use Rattle.commands.specs.declared.Command.the-variants.{Begin}
-use Rattle.floor.specs.Free.{nextRow}
 use Rattle.floor.specs.Claims.{Sound}
 use Rattle.floor.specs.Step.{stepOf}
 use Rattle.attempts.specs.declared.State.{State}
 use Rattle.attempts.specs.declared.State.the-variants.{Idle, Reading, Writing, Decided, Gone}
 use Rattle.attempts.specs.declared.Station.{Station}
 use Rattle.floor.specs.declared.Floor.{Floor}
+use Rattle.commands.specs.declared.Outcome.{Outcome}
 use Rattle.commands.specs.declared.Outcome.the-variants as said
 use Rattle.base.proofs.Cases.{clash, by-cases, up-to}
 use Rattle.floor.proofs.Keeps.{step-keeps, step-sizes}
-use Rattle.floor.proofs.RowLaws.{apply-used, apply-highest}
+use Rattle.floor.proofs.RowLaws.{apply-share}
 use Rattle.floor.proofs.BoxLaws.{stopped-stays, stopped-from}
-use Rattle.floor.proofs.StationLaws.{gone-from, active-from}
-use Rattle.agreement.specs.Words.{Before, commandAt, Attempt, attemptRank, Named, AbortsAt, IdleAt, attemptsBefore, RoundLeft}
+use Rattle.floor.proofs.StationLaws.{department-stays, gone-from, active-from}
+use Rattle.agreement.specs.Words.{Before, commandAt, begunIn, Attempt, attemptRank, attemptDepartment, Named, AbortsAt, IdleAt, attemptsBefore, RoundLeft}
 use Rattle.agreement.specs.GivenBack.{HighestAt}
 use Rattle.floor.specs.Runs.{floorAt, saidAt}
-use Rattle.agreement.proofs.History.{History, StationShows, Shows}
+use Rattle.agreement.proofs.History.{History, UsedBy, StationShows, Shows}
 use Rattle.agreement.proofs.Reach.{New}
 use Rattle.agreement.proofs.Positions.{later, now, reached-at, means-at, row-at}
 use Rattle.agreement.proofs.Safety.{shown-decided}
 
 -- a station that reads or writes is in a row of its own
-own-row : {f : Floor} {l : History} → Shows f l → (j a : ℕ) → isActive (stationAt f j .state) a ≡ true → (a < f .used) × (rowAt f a .station ≡ j)
-own-row {f} s j a = go (stationAt f j .state) (s .stations j)
+own-row : {f : Floor} {l : History} (j a : ℕ) → Shows (departmentAt f j) f l → isActive (stationAt f j .state) a ≡ true → InUse f a × (rowAt f a .station ≡ j)
+own-row {f} j a s = go (stationAt f j .state) (s .stations j refl)
   where
-    go : (p : State) → StationShows (f .used) (f .rows) j (stationAt f j .decided) p → isActive p a ≡ true → (a < f .used) × (rowAt f a .station ≡ j)
+    go : (p : State) → StationShows (UsedBy (departmentAt f j) f) (f .rows) j (stationAt f j .decided) p → isActive p a ≡ true → InUse f a × (rowAt f a .station ≡ j)
     go Idle q e = clash e refl
-    go (Reading x) q e = subst (λ (k : ℕ). (k < f .used) × (rowAt f k .station ≡ j)) (eqb-true x a e) (q .0, q .1)
-    go (Writing x) q e = subst (λ (k : ℕ). (k < f .used) × (rowAt f k .station ≡ j)) (eqb-true x a e) (q .0, q .1)
+    go (Reading x) q e = subst (λ (k : ℕ). InUse f k × (rowAt f k .station ≡ j)) (eqb-true x a e) (q .0 .1, q .1)
+    go (Writing x) q e = subst (λ (k : ℕ). InUse f k × (rowAt f k .station ≡ j)) (eqb-true x a e) (q .0 .1, q .1)
     go (Decided x) q e = clash e refl
     go Gone q e = clash e refl
 
 -- the larger of two is one of them
 max-choice : (m n : ℕ) → (max m n ≡ m) ⊎ (max m n ≡ n)
 max-choice m n = elim (decLt m n) [ yes h ↦ inr (omega arith) | no h ↦ inl (omega arith) ]
+
+-- what it means that an attempt of the department was begun
+begun-some : (d : Department) (o : Outcome) → begunIn d o ≡ true → (a : ℕ) × (o ≡ said.Begun a) × (rowDepartment a ≡ d)
+begun-some d (said.Begun a) e = (a, refl, sym (is-same d (rowDepartment a) e))
+begun-some d (said.Served a) e = clash e refl
+begun-some d (said.Received a) e = clash e refl
+begun-some d (said.Aborted a) e = clash e refl
+begun-some d (said.WriteIssued v) e = clash e refl
+begun-some d (said.Decided v) e = clash e refl
+begun-some d (said.Stopped b) e = clash e refl
+begun-some d (said.Gone s) e = clash e refl
+begun-some d (said.Refused k) e = clash e refl
 
 module _ (f : Floor) (l : List (List ℕ)) (new : New f) where
   -- the number of stations stays, and a sound floor stays sound
@@ -66,20 +82,59 @@ module _ (f : Floor) (l : List (List ℕ)) (new : New f) where
   sound-at z zero = z
   sound-at z (suc i) = step-keeps (floorAt f l i) (getD l i []) (sound-at z i)
 
-  -- as many rows are in use as begins were accepted, up to 64
-  pub used-at : (i : ℕ) → ((attemptsBefore f l i ≤ 64) × (floorAt f l i .used ≡ attemptsBefore f l i)) ⊎ ((64 < attemptsBefore f l i) × (floorAt f l i .used ≡ 64))
-  unfolding floorAt stepOf count
-  used-at zero = inl (omega arith, new .unused)
-  used-at (suc i) =
-      by-cases (isBegun (saidAt f l i))
-      (λ e. let u = apply-used (floorAt f l i) (commandAt l i) ∙ sym (on-true _ e refl) in let k = ap indicator e in elim (used-at i) [
-        | inl o ↦ elim (decLt (floorAt f l i .used) 64) [
-          | yes h ↦ inl (omega (arith, o .1), omega (arith, u, o .1, used-more (floorAt f l i .used) h))
-          | no h ↦ inr (omega (arith, o .1), omega (arith, u, o .0, o .1, used-full (floorAt f l i .used) (omega arith)))
+  -- a station keeps its department, and its attempts are of it
+  pub department-at : (s i : ℕ) → departmentAt (floorAt f l i) s ≡ departmentAt f s
+  unfolding floorAt stepOf
+  department-at s zero = refl
+  department-at s (suc i) = department-stays (floorAt f l i) (commandAt l i) s ∙ department-at s i
+
+  pub own-department : (x : Attempt f l) → attemptDepartment f l x ≡ departmentAt f (x .station)
+  own-department x =
+      let i = x .at in
+      let b = means-at f l new i (said.Begun (x .number)) (x .begun) in
+      let s : b .station ≡ x .station = cc (b .command, x .asked) in
+      ap rowDepartment (b .next) ∙ next-own (floorAt f l i) (departmentAt (floorAt f l i) (b .station)) (b .may .row)
+      ∙ ap (departmentAt (floorAt f l i)) s ∙ department-at (x .station) i
+
+  -- the share of a department after the step at i: one more row, where an attempt of it was begun
+  abbrev shareAt : Department → ℕ → Share
+  shareAt d i = shareOf d (floorAt f l i)
+
+  share-more : (d : Department) (i : ℕ) → begunIn d (saidAt f l i) ≡ true → usedOf (floorAt f l (suc i)) d ≡ usedAfter (usedOf (floorAt f l i) d)
+  share-more d i e =
+      let g = floorAt f l i in
+      let k = begun-some d (saidAt f l i) e in
+      let b = means-at f l new i (said.Begun (k .0)) (k .1) in
+      let q : departmentAt g (b .station) ≡ d = sym (next-own g (departmentAt g (b .station)) (b .may .row)) ∙ ap rowDepartment (sym (b .next)) ∙ k .2 in
+      subst (λ (x : Department). usedOf (floorAt f l (suc i)) x ≡ usedAfter (usedOf g x)) q (ap (λ (x : Share). x .used) (b .share))
+
+  share-same : (d : Department) (i : ℕ) → begunIn d (saidAt f l i) ≡ false → shareAt d (suc i) ≡ shareAt d i
+  unfolding floorAt stepOf
+  share-same d i e = elim (apply-share (floorAt f l i) (commandAt l i) d) [
+    | inl q ↦ q
+    | inr r ↦ (
+        let g = floorAt f l i in
+        let b = means-at f l new i (said.Begun (rowTaken g (r .station))) (r .outcome) in
+        let s : b .station ≡ r .station = cc (b .command, r .command) in
+        let o : rowDepartment (rowTaken g (r .station)) ≡ d =
+        next-own g (departmentAt g (r .station)) (subst (λ (j : ℕ). rowTaken g j < 128) s (b .may .row)) ∙ r .of in
+        clash (ap (begunIn d) (r .outcome) ∙ same-is d (rowDepartment (rowTaken g (r .station))) (sym o)) e)
+  ]
+
+  -- as many rows of a department are in use as begins of it were accepted, up to 64
+  pub used-at : (d : Department) (i : ℕ) → ((attemptsBefore f l d i ≤ 64) × (usedOf (floorAt f l i) d ≡ attemptsBefore f l d i)) ⊎ ((64 < attemptsBefore f l d i) × (usedOf (floorAt f l i) d ≡ 64))
+  unfolding floorAt count
+  used-at d zero = inl (omega arith, ap (λ (x : Share). x .used) (new .shares d))
+  used-at d (suc i) =
+      by-cases (begunIn d (saidAt f l i))
+      (λ e. let u = share-more d i e in let k = ap indicator e in elim (used-at d i) [
+        | inl o ↦ elim (decLt (usedOf (floorAt f l i) d) 64) [
+          | yes h ↦ inl (omega (arith, o .1), omega (arith, u, o .1, used-more (usedOf (floorAt f l i) d) h))
+          | no h ↦ inr (omega (arith, o .1), omega (arith, u, o .0, o .1, used-full (usedOf (floorAt f l i) d) (omega arith)))
         ]
-        | inr o ↦ inr (omega (arith, o .0), omega (arith, u, o .1, used-full (floorAt f l i .used) (omega (arith, o .1))))
+        | inr o ↦ inr (omega (arith, o .0), omega (arith, u, o .1, used-full (usedOf (floorAt f l i) d) (omega (arith, o .1))))
       ])
-      (λ e. let u = apply-used (floorAt f l i) (commandAt l i) ∙ sym (on-false _ e refl) in let k = ap indicator e in elim (used-at i) [
+      (λ e. let u = ap (λ (x : Share). x .used) (share-same d i e) in let k = ap indicator e in elim (used-at d i) [
         | inl o ↦ inl (omega (arith, o .0), omega (arith, u, o .1))
         | inr o ↦ inr (omega (arith, o .0), omega (arith, u, o .1))
       ])
@@ -115,7 +170,7 @@ module _ (f : Floor) (l : List (List ℕ)) (new : New f) where
     | inl o ↦ inl (
       o,
       λ q.
-          let own = own-row (reached-at f l new i .shows) j a o .1 in
+          let own = own-row j a (reached-at f l new (departmentAt (floorAt f l i) j) i .shows) o .1 in
           clash e (ap (λ (k : ℕ). isActive (stationAt (floorAt f l (suc i)) k .state) a) (sym own) ∙ ap (λ (x : Station). isActive (x .state) a) (means-at f l new i (said.Aborted a) q .owner)),
     )
     | inr o ↦ inr o
@@ -136,7 +191,7 @@ module _ (f : Floor) (l : List (List ℕ)) (new : New f) where
   module _ (s i : ℕ) (idle : IdleAt f l s i) where
     in-none : (a : ℕ) → ¬ (isActive (stationAt (floorAt f l i) s .state) a ≡ true)
     in-none a e =
-        let own = own-row (reached-at f l new i .shows) s a e in
+        let own = own-row s a (reached-at f l new (departmentAt (floorAt f l i) s) i .shows) e in
         let o = row-at f l new i a (own .0) in
         let b = idle .aborted (o .attempt) (o .named .earlier) (o .station ∙ own .1) in
         not-aborted s i (b .at) (o .attempt) (ap (isActive (stationAt (floorAt f l i) s .state)) (o .number) ∙ e) (o .named) (b .earlier) (b .holds)
@@ -147,51 +202,64 @@ module _ (f : Floor) (l : List (List ℕ)) (new : New f) where
     idle-as (Writing a) e = absurd (in-none a (ap (λ (p : State). isActive p a) e ∙ eq-eqb a a refl))
     idle-as (Decided a) e =
         absurd (idle .undecided _ (shown-decided f l new s i
-        (subst (StationShows (floorAt f l i .used) (floorAt f l i .rows) s (stationAt (floorAt f l i) s .decided)) e (reached-at f l new i .shows .stations s))))
+        (subst (StationShows (UsedBy (departmentAt (floorAt f l i) s) (floorAt f l i)) (floorAt f l i .rows) s (stationAt (floorAt f l i) s .decided)) e
+        (reached-at f l new (departmentAt (floorAt f l i) s) i .shows .stations s refl))))
     idle-as Gone e = absurd (idle .here (gone-before s i (ap isGone e)))
 
     pub idle-state : stationAt (floorAt f l i) s .state ≡ Idle
     idle-state = idle-as (stationAt (floorAt f l i) s .state) refl
 
-  -- the floor keeps the highest rank begun
-  highest-some : (i : ℕ) → (floorAt f l i .highest ≡ 0) ⊎ ((x : Attempt f l) × (x .at < i) × (attemptRank f l x ≡ floorAt f l i .highest))
+  -- the floor keeps the highest rank begun in each department
+  highest-some : (d : Department) (i : ℕ)
+      → (highestOf (floorAt f l i) d ≡ 0) ⊎ ((x : Attempt f l) × (x .at < i) × (attemptDepartment f l x ≡ d) × (attemptRank f l x ≡ highestOf (floorAt f l i) d))
   unfolding floorAt stepOf
-  highest-some zero = inl (new .highest)
-  highest-some (suc i) = elim (apply-highest (floorAt f l i) (commandAt l i)) [
-    | inl e ↦ elim (highest-some i) [ inl z ↦ inl (e ∙ z) | inr o ↦ inr (o .0, omega (arith, o .1), o .2 ∙ sym e) ]
+  highest-some d zero = inl (ap (λ (x : Share). x .highest) (new .shares d))
+  highest-some d (suc i) = elim (apply-share (floorAt f l i) (commandAt l i) d) [
+    | inl q ↦ (
+        let e = ap (λ (x : Share). x .highest) q in
+        elim (highest-some d i) [ inl z ↦ inl (e ∙ z) | inr o ↦ inr (o .0, omega (arith, o .1), o .2, o .3 ∙ sym e) ])
     | inr r ↦ (
-        let x : Attempt f l = record { at = i; station = r .station; round = r .round; offer = r .offer; number = nextRow (floorAt f l i); asked = r .command; begun = r .outcome } in
-        elim (max-choice (floorAt f l i .highest) (attemptRank f l x)) [
-          | inl e ↦ elim (highest-some i) [
-            | inl z ↦ inl (r .highest ∙ e ∙ z)
-            | inr o ↦ inr (o .0, omega (arith, o .1), o .2 ∙ sym (r .highest ∙ e))
+        let g = floorAt f l i in
+        let x : Attempt f l = record { at = i; station = r .station; round = r .round; offer = r .offer; number = rowTaken g (r .station); asked = r .command; begun = r .outcome } in
+        let of : attemptDepartment f l x ≡ d = own-department x ∙ sym (department-at (r .station) i) ∙ r .of in
+        let h : highestOf (floorAt f l (suc i)) d ≡ max (highestOf g d) (attemptRank f l x) =
+        ap (λ (y : Share). y .highest) (r .share) ∙ ap (λ (e : Department). max (highestOf g e) (attemptRank f l x)) (r .of) in
+        elim (max-choice (highestOf g d) (attemptRank f l x)) [
+          | inl e ↦ elim (highest-some d i) [
+            | inl z ↦ inl (h ∙ e ∙ z)
+            | inr o ↦ inr (o .0, omega (arith, o .1), o .2, o .3 ∙ sym (h ∙ e))
           ]
-          | inr e ↦ inr (x, omega arith, sym (r .highest ∙ e))
+          | inr e ↦ inr (x, omega arith, of, sym (h ∙ e))
         ])
   ]
 
-  highest-up : (i : ℕ) → floorAt f l i .highest ≤ floorAt f l (suc i) .highest
+  highest-up : (d : Department) (i : ℕ) → highestOf (floorAt f l i) d ≤ highestOf (floorAt f l (suc i)) d
   unfolding floorAt stepOf
-  highest-up i = elim (apply-highest (floorAt f l i) (commandAt l i)) [ inl e ↦ omega (arith, e) | inr r ↦ omega (arith, r .highest) ]
+  highest-up d i = elim (apply-share (floorAt f l i) (commandAt l i) d) [
+    | inl e ↦ omega (arith, ap (λ (x : Share). x .highest) e)
+    | inr r ↦ omega (arith, ap (λ (x : Share). x .highest) (r .share), ap (highestOf (floorAt f l i)) (r .of))
+  ]
 
-  highest-each : (i : ℕ) (x : Attempt f l) → x .at < i → attemptRank f l x ≤ floorAt f l i .highest
-  highest-each zero x h = absurd (omega arith)
-  highest-each (suc i) x h = elim (up-to h) [
+  highest-each : (d : Department) (i : ℕ) (x : Attempt f l) → x .at < i → attemptDepartment f l x ≡ d → attemptRank f l x ≤ highestOf (floorAt f l i) d
+  highest-each d zero x h o = absurd (omega arith)
+  highest-each d (suc i) x h o = elim (up-to h) [
     | inl q ↦ (
+        let g = floorAt f l i in
         let b = means-at f l new i (said.Begun (x .number)) (ap (saidAt f l) (sym q) ∙ x .begun) in
         let c : Begin (x .station) (x .round) (x .offer) ≡ Begin (b .station) (b .round) (b .offer) = sym (x .asked) ∙ ap (commandAt l) q ∙ b .command in
         let s : x .station ≡ b .station = cc in
         let r : x .round ≡ b .round = cc in
-        omega (arith, b .highest))
-    | inr q ↦ omega (arith, highest-each i x q, highest-up i)
+        let e : departmentAt g (b .station) ≡ d = ap (departmentAt g) (sym s) ∙ department-at (x .station) i ∙ sym (own-department x) ∙ o in
+        omega (arith, ap (λ (y : Share). y .highest) (b .share), ap (highestOf (floorAt f l (suc i))) e))
+    | inr q ↦ omega (arith, highest-each d i x q o, highest-up d i)
   ]
 
-  pub highest-at : (i : ℕ) → HighestAt f l (floorAt f l i .highest) i
-  highest-at i = record { each = highest-each i; some = highest-some i }
+  pub highest-at : (d : Department) (i : ℕ) → HighestAt f l d (highestOf (floorAt f l i) d) i
+  highest-at d i = record { each = highest-each d i; some = highest-some d i }
 
   -- a round left outranks the highest rank begun
-  pub round-outranks : (s i : ℕ) (r : RoundLeft f l s i) → floorAt f l i .highest < rankOf (r .round) s
-  round-outranks s i r = elim (highest-some i) [
+  pub round-outranks : (d : Department) (s i : ℕ) (r : RoundLeft f l d s i) → highestOf (floorAt f l i) d < rankOf (r .round) s
+  round-outranks d s i r = elim (highest-some d i) [
     | inl z ↦ omega (arith, r .least)
-    | inr o ↦ omega (arith, r .outranks (o .0) (o .1), o .2)
+    | inr o ↦ omega (arith, r .outranks (o .0) (o .1) (o .2), o .3)
   ]

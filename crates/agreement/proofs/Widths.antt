@@ -2,13 +2,17 @@
 use Prim.Native.Nat.{ℕ, zero, suc, _<_, _^_}
 use native.Mathlib.Omega.{arith}
 use mathlib.Core.Path.{sym, subst}
+use mathlib.Core.Logic.{inl, inr}
 use mathlib.Core.List.{List, [], _∷_}
 use lib.ListN.{getD, replicate}
 use Rattle.base.specs.Bytes.{Bytes}
 use Rattle.base.specs.Records.{AllRecords}
 use Rattle.base.proofs.Choices.{by-test}
 use Rattle.base.proofs.Stores.{set-all, getD-same}
-use Rattle.register.specs.Register.{box0}
+use Rattle.register.specs.Register.{box0, registerOf}
+use Rattle.register.specs.declared.Department.{Department}
+use Rattle.register.specs.declared.Department.the-variants.{Sails, Canvas}
+use Rattle.register.proofs.DepartmentLaws.{same-or-not, box-own, box-other}
 use Rattle.register.specs.declared.Register.{Register}
 use Rattle.register.specs.declared.ReadDone.{ReadDone}
 use Rattle.register.specs.declared.StorageBox.{StorageBox}
@@ -23,19 +27,19 @@ use Rattle.commands.specs.Claims.{Fielded}
 use Rattle.commands.specs.declared.Command.{Command}
 use Rattle.commands.specs.declared.Outcome.{Outcome}
 use Rattle.commands.proofs.Encodings.{decode-fielded}
-use Rattle.attempts.specs.Rows.{answer0, answerOf, row0, unusedRow, newRow, rowServed, rowHeard, registerServed, revisionFrom, revisionOf, issued}
+use Rattle.attempts.specs.Rows.{rowDepartment, answer0, answerOf, row0, unusedRow, newRow, rowServed, rowHeard, registerServed, revisionFrom, revisionOf, issued}
 use Rattle.attempts.specs.Claims.{Found, nothing, highest}
 use Rattle.attempts.specs.declared.Answer.{Answer}
 use Rattle.attempts.specs.declared.rows.Best.{Best}
 use Rattle.attempts.specs.declared.Row.{Row}
 use Rattle.attempts.proofs.Answers.{best-found}
-use Rattle.floor.specs.Floors.{boxAt, rowAt, emptyFloor, newFloorOf}
-use Rattle.floor.specs.Effects.{heardRow}
+use Rattle.floor.specs.Floors.{boxAt, rowAt, registerAt, emptyFloor, newFloorOf}
+use Rattle.floor.specs.Effects.{heardRow, servedBy}
+use Rattle.floor.proofs.Keeps.{new-floor-by}
 use Rattle.floor.specs.Step.{stepOf}
 use Rattle.floor.specs.Runs.{floorAt}
 use Rattle.floor.specs.Claims.{RowMove, row-kept, row-begins, row-served, row-heard, row-issues, BoxMove, box-kept, box-serves, box-stops}
 use Rattle.floor.specs.declared.Floor.{Floor}
-use Rattle.floor.specs.declared.NewFloor.{NewFloor}
 use Rattle.floor.proofs.Moves.{apply-box, apply-row}
 
 pub record RowFits (w : Row) : Type 0 where
@@ -46,7 +50,7 @@ pub record RowFits (w : Row) : Type 0 where
 
 pub record FloorFits (f : Floor) : Type 0 where
   pub rows : (a : ℕ) → RowFits (rowAt f a)
-  pub boxes : (b : ℕ) → Fits32 (boxAt f b .register)
+  pub boxes : (d : Department) (b : ℕ) → Fits32 (registerAt f d b)
 
 AnswerFits : Answer → Type 0
 AnswerFits x = (x .rank < 2 ^ 32) × (x .value < 2 ^ 32)
@@ -90,22 +94,26 @@ module _ {f : Floor} (h : FloorFits f) {c : Command} (k : Fielded c) (j : ℕ) w
   row-fits (row-begins e s _) =
       let q = subst Fielded e k in
       record { rank = omega (arith, q .0, q .1); offer = q .2; written = omega arith; answers = λ i. rw (getD-same 9 i answer0) (omega arith, omega arith) }
-  row-fits (row-served {p} {b} e d) = served-fits p b (h .rows j) (h .boxes b)
+  row-fits (row-served {p} {b} e d) = served-fits p b (h .rows j) (h .boxes (rowDepartment j) b)
   row-fits (row-heard {p} {b} e d _) = heard-fits p b (h .rows j)
   row-fits (row-issues {b} {v} e d r q u t) =
       let w = heard-fits Read b (h .rows j) in
       record { rank = w .rank; offer = w .offer; written = subst (λ (u : ℕ). u < 2 ^ 32) (sym t) (revision-fits (heardRow f Read j b) (f .n) w); answers = w .answers }
 
-  box-fits : {o : Outcome} {x : StorageBox} → BoxMove f c j o x → Fits32 (x .register)
-  box-fits box-kept = h .boxes j
-  box-fits (box-serves {p} {a} e u s) = served-register p (h .rows a) (h .boxes j)
-  box-fits (box-stops e s) = h .boxes j
+  box-fits : {o : Outcome} {x : StorageBox} (d : Department) → BoxMove f c j o x → Fits32 (registerOf d x)
+  box-fits d box-kept = h .boxes d j
+  box-fits d (box-serves {p} {a} e u s) = elim (same-or-not d (rowDepartment a)) [
+    | inl q ↦ rw (q, box-own (rowDepartment a) (boxAt f j) _ (boxAt f j .stopped)) (served-register p (h .rows a) (h .boxes (rowDepartment a) j))
+    | inr n ↦ rw (box-other (rowDepartment a) d (boxAt f j) (registerServed p (rowAt f a) (servedBy f a j)) (boxAt f j .stopped) n) (h .boxes d j)
+  ]
+  box-fits Sails (box-stops e s) = h .boxes Sails j
+  box-fits Canvas (box-stops e s) = h .boxes Canvas j
 
 step-fits : (f : Floor) (r : List ℕ) → Bytes r → FloorFits f → FloorFits (stepOf f r .floor)
 unfolding stepOf
 step-fits f r b h =
     let k = decode-fielded r b in
-    record { rows = λ j. row-fits h k j (apply-row f (commandOf r) j); boxes = λ j. box-fits h k j (apply-box f (commandOf r) j) }
+    record { rows = λ j. row-fits h k j (apply-row f (commandOf r) j); boxes = λ d j. box-fits h k j d (apply-box f (commandOf r) j) }
 
 record-bytes : (l : List (List ℕ)) → AllRecords l → (i : ℕ) → Bytes (getD l i [])
 record-bytes [] h i = tt
@@ -123,14 +131,17 @@ replicated P zero x d p q j = q
 replicated P (suc k) x d p q zero = p
 replicated P (suc k) x d p q (suc j) = replicated P k x d p q j
 
-empty-fits : (n m : ℕ) → FloorFits (emptyFloor n m)
-empty-fits n m = record {
-  rows = replicated RowFits 64 unusedRow row0
+none-fits : (d : Department) → Fits32 (registerOf d box0)
+none-fits Sails = record { read = omega arith; write = omega arith; value = omega arith }
+none-fits Canvas = record { read = omega arith; write = omega arith; value = omega arith }
+
+empty-fits : (n m : ℕ) (l : List ℕ) → FloorFits (emptyFloor n m l)
+empty-fits n m l = record {
+  rows = replicated RowFits 128 unusedRow row0
       (record { rank = omega arith; offer = omega arith; written = omega arith; answers = λ j. rw (getD-same 9 j answer0) (omega arith, omega arith) })
       (record { rank = omega arith; offer = omega arith; written = omega arith; answers = λ j. (omega arith, omega arith) });
-  boxes = λ b. rw (getD-same 9 b box0) (record { read = omega arith; write = omega arith; value = omega arith });
+  boxes = λ d b. rw (getD-same 9 b box0) (none-fits d);
 }
 
-pub new-fits : (n m : ℕ) → FloorFits (newFloorOf n m .floor)
-unfolding newFloorOf
-new-fits n m = by-test (λ (x : NewFloor). FloorFits (x .floor)) _ _ _ (λ _. empty-fits n m) (λ _. empty-fits 1 1)
+pub new-fits : (n m : ℕ) (l : List ℕ) → FloorFits (newFloorOf n m l .floor)
+new-fits n m l = new-floor-by FloorFits n m l (λ _ _. empty-fits n m l) (empty-fits 1 1 [])

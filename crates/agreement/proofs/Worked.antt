@@ -4,6 +4,7 @@ use native.Mathlib.Omega.{arith}
 use mathlib.Core.Path.{_≡_, refl, sym, ap, _∙_}
 use mathlib.Core.Logic.{_⊎_, inl, inr}
 use mathlib.Core.Bool.{Bool, true, false}
+use mathlib.Core.List.{[], _∷_}
 use lib.ListN.{length}
 use lib.Dec.{eqb, leb}
 use lib.Count.{ones, onesIn}
@@ -17,11 +18,16 @@ use Rattle.base.proofs.Choices.{on-true, on-false, both-true}
 use Rattle.register.specs.Register.{outranks, rmwRead, rmwWrite, takes}
 use Rattle.requests.specs.Requests.{standing, waitingBelow, atQuorum, stillYes, allYes, readVerdict, writeVerdict}
 use Rattle.requests.specs.declared.Phase.the-variants.{Read, Write}
-use Rattle.floor.specs.Sound.{stationsBelow, soundOf}
-use Rattle.floor.specs.Floors.{newFloorOf}
+use Rattle.base.specs.Departments.{departmentsWrong, notDepartments, notDepartment}
+use Rattle.register.specs.declared.Department.the-variants.{Sails, Canvas}
+use Rattle.floor.specs.Sound.{stationsBelow, shareSound, soundOf}
+use Rattle.floor.specs.Floors.{departmentAt, usedOf, InUse, departmentFrom, stationsTold, newFloorOf}
+use Rattle.floor.specs.declared.Floor.{Floor}
+use Rattle.attempts.proofs.RowDepartments.{sails-row}
+use Rattle.floor.proofs.UseLaws.{of-use}
 use Rattle.commands.specs.Commands.{allZero, spared, commandOf}
 use Rattle.floor.specs.Free.{stillServed, allServed, freeIn, isFree, nextRow}
-use Rattle.attempts.specs.Rows.{newRow, waitsAt, usedAfter, better, bestOf, revisionFrom, revisionOf, issued}
+use Rattle.attempts.specs.Rows.{rowDepartment, newRow, waitsAt, usedAfter, better, bestOf, revisionFrom, revisionOf, issued}
 use Rattle.floor.specs.Refusals.{beginRefusal, serveRefusal, deliverRefusal, stopRefusal}
 use Rattle.floor.specs.Effects.{deliveredOn}
 use Rattle.floor.specs.Step.{playOf, applyOf, stepOf}
@@ -32,7 +38,7 @@ use Rattle.solo.specs.Solo.{soloOf}
 use Rattle.agreement.specs.Words.{commandAt, Attempt, ServedAt, DecidesAt, AbortsAt, OutrankedAt, shownAt, IdleAt, attemptsBefore, unused}
 use Rattle.floor.specs.Runs.{floorAt, floorLeft, saidAt}
 use Rattle.agreement.specs.Demand.{DrivenAlone}
-use Rattle.agreement.specs.Worked.{single, one, exampleI, stops, outrankedRead, three, five, heldAt, Worked}
+use Rattle.agreement.specs.Worked.{single, one, exampleI, stops, outrankedRead, both, two, three, five, heldAt, heldFor, Worked}
 use Rattle.agreement.proofs.GivenBack.{given-back}
 use Rattle.agreement.proofs.Demand.{demand3}
 use Rattle.agreement.proofs.Consequences.{consequences}
@@ -71,20 +77,24 @@ record Computed : Type 0 where
   over : saidAt three exampleI 20 ≡ said.Refused 10
   shown : shownAt three exampleI 1 (length exampleI) ≡ 9
   none : shownAt three exampleI 0 (length exampleI) ≡ 0
-  attempts : attemptsBefore three exampleI (length exampleI) ≡ 2
+  attempts : attemptsBefore three exampleI Sails (length exampleI) ≡ 2
   -- the read of attempt 1 is served at box 1
   asked : commandAt exampleI 6 ≡ Serve Read 1 1
   served : saidAt three exampleI 6 ≡ said.Served 1
   begins : commandAt exampleI 5 ≡ Begin 1 1 9
   begun : saidAt three exampleI 5 ≡ said.Begun 1
   told : (commandAt outrankedRead 4 ≡ Deliver Read 0 0) × (saidAt three outrankedRead 4 ≡ said.Aborted 0)
-  freed : (0 < floorAt one single 5 .used) × (isFree (floorAt one single 5) 0 ≡ true)
+  freed : (0 < usedOf (floorAt one single 5) Sails) × (isFree (floorAt one single 5) 0 ≡ true)
   unfreed : isFree (floorAt one single 4) 0 ≡ false
   stop0 : saidAt five stops 0 ≡ said.Stopped 0
   stop1 : saidAt five stops 1 ≡ said.Stopped 1
   sizes : (five .n ≡ 5) × (five .m ≡ 1)
   enough : count unstopped 5 ≡ 3
-  begun-none : attemptsBefore five stops 2 ≡ 0
+  sails : (departmentAt five 0 ≡ Sails) × (departmentAt three 0 ≡ Sails)
+  first-decided : saidAt two both 8 ≡ said.Decided 7
+  second-decided : saidAt two both 9 ≡ said.Decided 9
+  both-held : (heldFor Sails ≡ 7) × (heldFor Canvas ≡ 9)
+  begun-none : attemptsBefore five stops Sails 2 ≡ 0
   -- behind example I: boxes 1 and 2 hold the revision of attempt 1, and box 0 that of attempt 0
   first : (commandAt exampleI 0 ≡ Begin 0 1 7) × (saidAt three exampleI 0 ≡ said.Begun 0)
   abort : commandAt exampleI 17 ≡ Deliver Write 0 1
@@ -93,7 +103,7 @@ record Computed : Type 0 where
   all : (three .n ≡ 3) × (three .m ≡ 2) × (count (λ b. true) 3 ≡ 3)
 
 computed : Computed
-unfolding floorAt count asExpected expected if_then_else_ sizesRight newFloorOf stepOf applyOf playOf soundOf stationsBelow commandOf allZero spared beginRefusal serveRefusal deliverRefusal stopRefusal standing bit setBit countBelow ones onesIn atQuorum newRow nextRow usedAfter freeIn allServed stillServed waitsAt waitingBelow outranks rmwRead rmwWrite takes deliveredOn better bestOf revisionFrom revisionOf issued stillYes allYes readVerdict writeVerdict
+unfolding floorAt count asExpected expected if_then_else_ sizesRight departmentsWrong notDepartments notDepartment departmentFrom stationsTold newFloorOf stepOf applyOf playOf soundOf shareSound stationsBelow rowDepartment commandOf allZero spared beginRefusal serveRefusal deliverRefusal stopRefusal standing bit setBit countBelow ones onesIn atQuorum newRow nextRow usedAfter freeIn allServed stillServed waitsAt waitingBelow outranks rmwRead rmwWrite takes deliveredOn better bestOf revisionFrom revisionOf issued stillYes allYes readVerdict writeVerdict
 computed = record {
   decided = refl;
   aborted = refl;
@@ -113,6 +123,10 @@ computed = record {
   stop1 = refl;
   sizes = (refl, refl);
   enough = refl;
+  sails = (refl, refl);
+  first-decided = refl;
+  second-decided = refl;
+  both-held = (refl, refl);
   begun-none = refl;
   first = (refl, refl);
   abort = refl;
@@ -121,9 +135,10 @@ computed = record {
   all = (refl, refl, refl);
 }
 
-rank-17 : ServedAt three exampleI 17 1 6
+rank-17 : ServedAt three exampleI Sails 17 1 6
 rank-17 = record {
   attempt = record { at = 5; station = 1; round = 1; offer = 9; number = 1; asked = computed .begins; begun = computed .begun };
+  of = sails-row 1 (omega arith);
   named = record { earlier = omega arith; last = λ k h u. absurd (omega arith) };
   rank = refl;
   phase = Read;
@@ -133,13 +148,13 @@ rank-17 = record {
 
 -- by the claims: a station decided, and a rank above that of attempt 0 was served before it aborted
 decides : (s : ℕ) × DecidesAt three exampleI s 9 13
-decides = let d = consequences 3 2 exampleI .station 13 9 (computed .decided) in (d .0, d .2)
+decides = let d = consequences 3 2 (0 ∷ 0 ∷ []) exampleI .station 13 9 (computed .decided) in (d .0, d .2)
 
 outranked : OutrankedAt three exampleI 17
-outranked = demand3 3 2 exampleI .safety .abort 17 0 (computed .aborted)
+outranked = demand3 3 2 (0 ∷ 0 ∷ []) exampleI .safety Sails .abort 17 0 (sails-row 0 (omega arith)) (computed .aborted)
 
 outranked-read : OutrankedAt three outrankedRead 4
-outranked-read = demand3 3 2 outrankedRead .safety .abort 4 0 (computed .told .1)
+outranked-read = demand3 3 2 (0 ∷ 0 ∷ []) outrankedRead .safety Sails .abort 4 0 (sails-row 0 (omega arith)) (computed .told .1)
 
 -- both steps of `stops` stop a box below 2, and nothing else was said
 only-stops : (k : ℕ) (o : Outcome) → k < 2 → saidAt five stops k ≡ o → (b : ℕ) × (b < 2) × (o ≡ said.Stopped b)
@@ -160,14 +175,14 @@ no-attempt x h = let e = only-stops (x .at) _ h (x .begun) .2 in let z : _≡_ {
 -- with 2 of 5 boxes stopped, whatever revision station 0 offers
 alone : (v : ℕ) → 0 < v → v < 4294967296 → DrivenAlone five stops 0 v (soloOf (floorLeft five stops) 0 v)
 alone v p q =
-    demand3 5 1 stops .solo 0 v (omega (arith, computed .sizes .1)) idle
+    demand3 5 1 (0 ∷ []) stops .solo 0 v (omega (arith, computed .sizes .1)) idle
     (record {
       set = unstopped;
       large = rw (computed .sizes .0) (omega (arith, computed .enough));
       each = λ b h t x. (let o = only-stops (x .at) _ (x .earlier) (x .holds) in let e : b ≡ o .0 = cc (o .2) in omega (arith, leb-true 2 b t, o .1));
     })
-    (unused (omega (arith, computed .begun-none)))
-    (record { round = 1; least = omega arith; most = omega arith; outranks = λ x h. absurd (no-attempt x h) })
+    (unused (rw (computed .sails .0) (omega (arith, computed .begun-none))))
+    (record { round = 1; least = omega arith; most = omega arith; outranks = λ x h _. absurd (no-attempt x h) })
     p q
 
 thirteen : (v : ℕ) → 0 < v → v < 4294967296 → soloOf (floorLeft five stops) 0 v .steps ≡ 13
@@ -233,7 +248,7 @@ aborts x e n = record {
 idle-behind : IdleAt three exampleI 0 21
 idle-behind = record {
   here = λ x. nobody-left (x .at) (x .earlier) (said.Gone 0) refl (x .holds);
-  undecided = demand3 3 2 exampleI .safety .shown 0 21 .none (computed .none);
+  undecided = demand3 3 2 (0 ∷ 0 ∷ []) exampleI .shown 0 21 .none (computed .none);
   aborted = λ x h z. elim (attempt-is x h) [
     | inl o ↦ record { at = 17; earlier = omega arith; holds = aborts x (o .0) (o .1) }
     | inr o ↦ absurd (omega (arith, o .2, z))
@@ -243,16 +258,19 @@ idle-behind = record {
 -- whatever revision it offers
 alone-behind : (v : ℕ) → 0 < v → v < 4294967296 → DrivenAlone three exampleI 0 v (soloOf (floorLeft three exampleI) 0 v)
 alone-behind v p q =
-    demand3 3 2 exampleI .solo 0 v (omega (arith, computed .all .1)) idle-behind
+    demand3 3 2 (0 ∷ 0 ∷ []) exampleI .solo 0 v (omega (arith, computed .all .1)) idle-behind
     (record { set = λ b. true; large = rw (computed .all .0) (omega (arith, computed .all .2)); each = λ b h t x. nobody-left (x .at) (x .earlier) (said.Stopped b) refl (x .holds) })
-    (unused (omega (arith, computed .attempts)))
+    (unused (rw (computed .sails .1) (omega (arith, computed .attempts))))
     (record {
       round = 2;
       least = omega arith;
       most = omega arith;
-      outranks = λ x h. elim (attempt-is x h) [ inl o ↦ omega (arith, o .2, o .3) | inr o ↦ omega (arith, o .2, o .3) ];
+      outranks = λ x h _. elim (attempt-is x h) [ inl o ↦ omega (arith, o .2, o .3) | inr o ↦ omega (arith, o .2, o .3) ];
     })
     p q
+
+in-sails : (f : Floor) → 0 < usedOf f Sails → InUse f 0
+in-sails f h = of-use f Sails 0 (sails-row 0 (omega arith)) (omega arith)
 
 pub worked : Worked
 worked = record {
@@ -261,8 +279,11 @@ worked = record {
   outranked = outranked;
   told = computed .told;
   outranked-read = outranked-read;
-  free = given-back 1 1 single .free 0 5 (computed .freed .0) (computed .freed .1);
-  not-free = λ x. clash (given-back 1 1 single .free-holds 0 4 x .1) (computed .unfreed);
+  free = given-back 1 1 (0 ∷ []) single .free 0 5 (in-sails (floorAt one single 5) (computed .freed .0)) (computed .freed .1);
+  not-free = λ x. clash (given-back 1 1 (0 ∷ []) single .free-holds 0 4 x .1) (computed .unfreed);
+  first-decided = computed .first-decided;
+  second-decided = computed .second-decided;
+  both-held = computed .both-held;
   alone = alone;
   thirteen = thirteen;
   idle-behind = idle-behind;

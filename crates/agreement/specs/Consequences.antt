@@ -10,15 +10,15 @@ use Rattle.commands.specs.declared.Command.the-variants.{Begin}
 use Rattle.commands.specs.declared.Outcome.the-variants as said
 use Rattle.agreement.specs.Words.{commandAt, DecidesAt, shownAt}
 use Rattle.floor.specs.Runs.{saidAt}
-use Rattle.agreement.specs.Demand.{firstFloor}
+use Rattle.floor.specs.declared.Floor.{Floor}
 
-pub record Consequences (n m : ℕ) (l : List (List ℕ)) : Type 0 where
+pub record Consequences (f : Floor) (l : List (List ℕ)) : Type 0 where
   -- nothing is accepted behind the end of the list
-  pub inside : (i : ℕ) → isRefused (saidAt (firstFloor n m) l i) ≡ false → i < length l
+  pub inside : (i : ℕ) → isRefused (saidAt f l i) ≡ false → i < length l
   -- what is decided is decided by a station
-  pub station : (i v : ℕ) → saidAt (firstFloor n m) l i ≡ said.Decided v → (s : ℕ) × (s < firstFloor n m .m) × DecidesAt (firstFloor n m) l s v i
+  pub station : (i v : ℕ) → saidAt f l i ≡ said.Decided v → (s : ℕ) × (s < f .m) × DecidesAt f l s v i
   -- the decided revision that the floor shows for a station never changes
-  pub stays : (s v k i : ℕ) → DecidesAt (firstFloor n m) l s v k → k < i → shownAt (firstFloor n m) l s i ≡ v
+  pub stays : (s v k i : ℕ) → DecidesAt f l s v k → k < i → shownAt f l s i ≡ v
   -- "each station keeps its own, and begins nothing after deciding": such a begin is refused with 9 or 10
-  pub over : (s v k i round u : ℕ) → DecidesAt (firstFloor n m) l s v k → k < i → commandAt l i ≡ Begin s round u
-      → (saidAt (firstFloor n m) l i ≡ said.Refused 9) ⊎ (saidAt (firstFloor n m) l i ≡ said.Refused 10)
+  pub over : (s v k i round u : ℕ) → DecidesAt f l s v k → k < i → commandAt l i ≡ Begin s round u
+      → (saidAt f l i ≡ said.Refused 9) ⊎ (saidAt f l i ≡ said.Refused 10)

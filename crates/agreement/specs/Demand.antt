@@ -7,7 +7,9 @@ use mathlib.Core.List.{List, _++_}
 use lib.ListN.{length}
 use Rattle.base.specs.Numbers.{quorum}
 use Rattle.base.specs.Quorum.{AtLeast}
-use Rattle.floor.specs.Floors.{newFloorOf}
+use Rattle.register.specs.declared.Department.{Department}
+use Rattle.attempts.specs.Rows.{rowDepartment}
+use Rattle.floor.specs.Floors.{departmentAt, newFloorOf}
 use Rattle.commands.specs.Outcomes.{isRefused}
 use Rattle.floor.specs.declared.Floor.{Floor}
 use Rattle.commands.specs.declared.Command.the-variants.{Begin}
@@ -15,24 +17,23 @@ use Rattle.commands.specs.declared.Outcome.the-variants as said
 use Rattle.solo.specs.Solo.{soloOf}
 use Rattle.base.specs.Records.{AllRecords}
 use Rattle.solo.specs.declared.Solo.{Solo}
-use Rattle.agreement.specs.Words.{Before, commandAt, OfferedAt, DecidesAt, OutrankedAt, ShownAt, Answering, IdleAt, RowLeft, RoundLeft}
-use Rattle.floor.specs.Runs.{floorLeft, saidAt}
+use Rattle.agreement.specs.Words.{Before, commandAt, Attempt, attemptDepartment, OfferedAt, DecidesAt, DecidedIn, OutrankedAt, ShownAt, Answering, IdleAt, RowLeft, RoundLeft}
+use Rattle.floor.specs.Runs.{floorAt, floorLeft, saidAt}
 
--- "It .. starts from a new floor of any n and m." Where they are out of range that is the floor of one box and one station.
-abbrev pub firstFloor : (n m : ℕ) → Floor
-firstFloor n m = newFloorOf n m .floor
+-- "It .. starts from a new floor of any n and m", told the departments of its stations (wish 6 of document 02). Where these are not right
+-- that is the floor of one box and one station, sails.
+abbrev pub firstFloor : (n m : ℕ) (departments : List ℕ) → Floor
+firstFloor n m departments = newFloorOf n m departments .floor
 
--- What holds whatever the steps are (safety).
-pub record Safety (n m : ℕ) (l : List (List ℕ)) : Type 0 where
-  -- "any two stations that decided have decided the same revision"
-  pub agreement : (i j u v : ℕ) → saidAt (firstFloor n m) l i ≡ said.Decided u → saidAt (firstFloor n m) l j ≡ said.Decided v → u ≡ v
-  -- "each decided revision was offered by a station before it was decided"
-  pub validity : (i v : ℕ) → saidAt (firstFloor n m) l i ≡ said.Decided v → Before (OfferedAt (firstFloor n m) l v) i
-  -- "before each abort a rank higher than the aborted one was served at a box"
-  pub abort : (i a : ℕ) → saidAt (firstFloor n m) l i ≡ said.Aborted a → OutrankedAt (firstFloor n m) l i
-  -- "The decided revision that the floor shows for a station is the one so said, and none only where none was said": on each floor of
-  -- the run, the last one too
-  pub shown : (s i : ℕ) → ShownAt (firstFloor n m) l s i
+-- What holds within the department d, whatever the steps are (safety).
+module _ (f : Floor) (l : List (List ℕ)) where
+  pub record Safety (d : Department) : Type 0 where
+    -- "any two stations that decided have decided the same revision"
+    pub agreement : (i j u v : ℕ) → DecidedIn f l d u i → DecidedIn f l d v j → u ≡ v
+    -- "each decided revision was offered by a station before it was decided"
+    pub validity : (i v : ℕ) → DecidedIn f l d v i → Before (OfferedAt f l d v) i
+    -- "before each abort a rank higher than the aborted one was served at a box"
+    pub abort : (i a : ℕ) → rowDepartment a ≡ d → saidAt f l i ≡ said.Aborted a → OutrankedAt f l i
 
 -- "Driven alone: by a solo finish for it, with any revision. Its steps put behind the list make the floor it hands back, the last of
 -- them says decided, and its number is how many they are." The station s with the revision v, behind the list l from the floor f; d is
@@ -53,21 +54,29 @@ pub record DrivenAlone (f : Floor) (l : List (List ℕ)) (s v : ℕ) (d : Solo) 
   -- "in exactly 4q + 1 steps"
   pub count : d .steps ≡ 4 * quorum (f .n) + 1
 
-pub record Demand3 (n m : ℕ) (l : List (List ℕ)) : Type 0 where
-  pub safety : Safety n m l
+-- "Demand 3 holds within each department"
+pub record Demand3 (f : Floor) (l : List (List ℕ)) : Type 0 where
+  pub safety : (d : Department) → Safety f l d
+  -- "The decided revision that the floor shows for a station is the one so said, and none only where none was said": on each floor of
+  -- the run, the last one too
+  pub shown : (s i : ℕ) → ShownAt f l s i
+  -- the attempts of a station are of its department, which it keeps; so its decisions and aborts are
+  pub own : (x : Attempt f l) → attemptDepartment f l x ≡ departmentAt f (x .station)
+  pub kept : (s i : ℕ) → departmentAt (floorAt f l i) s ≡ departmentAt f s
   -- "On any floor so reached, given q answering boxes, q being a majority of all boxes, fewer than 64 attempts, and a round left that
   -- outranks every attempt begun, an idle station driven alone, whatever revision it offers, decides in exactly 4q + 1 steps." Wish 5 of
-  -- document 02 has "an unused or free row" for "fewer than 64 attempts". A revision is "a 32-bit number other than 0".
+  -- document 02 has "an unused or free row" for "fewer than 64 attempts"; wish 6: rows and attempts of its department. A revision is "a
+  -- 32-bit number other than 0".
   pub solo : (s v : ℕ)
-      → s < firstFloor n m .m
-      → IdleAt (firstFloor n m) l s (length l)
-      → AtLeast (quorum (firstFloor n m .n)) (firstFloor n m .n) (Answering (firstFloor n m) l (length l))
-      → RowLeft (firstFloor n m) l (length l)
-      → RoundLeft (firstFloor n m) l s (length l)
+      → s < f .m
+      → IdleAt f l s (length l)
+      → AtLeast (quorum (f .n)) (f .n) (Answering f l (length l))
+      → RowLeft f l (departmentAt f s) (length l)
+      → RoundLeft f l (departmentAt f s) s (length l)
       → 0 < v
       → v < 4294967296
-      → DrivenAlone (firstFloor n m) l s v (soloOf (floorLeft (firstFloor n m) l) s v)
+      → DrivenAlone f l s v (soloOf (floorLeft f l) s v)
 
--- "Demand 3 is a single claim about the list": it holds of every list, from a new floor of any n and m.
+-- "Demand 3 is a single claim about the list": it holds of every list, from a new floor of any n and m, told any departments.
 abbrev pub Demand3Theorem : Type 0
-Demand3Theorem = (n m : ℕ) (l : List (List ℕ)) → Demand3 n m l
+Demand3Theorem = (n m : ℕ) (departments : List ℕ) (l : List (List ℕ)) → Demand3 (firstFloor n m departments) l

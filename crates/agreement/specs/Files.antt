@@ -3,9 +3,11 @@ use Prim.Native.Nat.{ℕ, _<_}
 use mathlib.Core.Path.{_≡_}
 use mathlib.Core.List.{List}
 use lib.ListN.{take}
-use Rattle.floor.specs.Floors.{stationAt}
+use Rattle.register.specs.declared.Department.{Department}
+use Rattle.floor.specs.Floors.{stationAt, departmentAt}
+use Rattle.floor.specs.declared.Floor.{Floor}
 use Rattle.drill_file.specs.DrillFile.{boxesOf, stationsOf, recordsOf}
-use Rattle.player.specs.Play.{playedOf}
+use Rattle.player.specs.Play.{toldIn, playedOf}
 use Rattle.agreement.specs.Words.{OfferedAt}
 use Rattle.agreement.specs.Demand.{firstFloor}
 
@@ -13,14 +15,21 @@ use Rattle.agreement.specs.Demand.{firstFloor}
 abbrev pub decidedIn : (file : List ℕ) (t : ℕ) → ℕ
 decidedIn file t = stationAt (playedOf file .floor) t .decided
 
+-- the new floor that the file is played on, and the department of the station t there
+abbrev pub startOf : (file : List ℕ) → Floor
+startOf file = firstFloor (boxesOf file) (stationsOf file) (toldIn file)
+
+abbrev pub departmentIn : (file : List ℕ) (t : ℕ) → Department
+departmentIn file t = departmentAt (startOf file) t
+
 -- the records that were accepted
 abbrev pub acceptedIn : (file : List ℕ) → List (List ℕ)
 acceptedIn file = take (playedOf file .accepted) (recordsOf file)
 
 -- of every file, refused ones too. The proof is `played-file` in proofs/Files.
 pub record PlayedFile (s : List ℕ) : Type 0 where
-  -- "any two stations that decided have decided the same revision"
-  pub agreement : (t u : ℕ) → 0 < decidedIn s t → 0 < decidedIn s u → decidedIn s t ≡ decidedIn s u
+  -- "any two stations that decided have decided the same revision", where they are of one department
+  pub agreement : (t u : ℕ) → departmentIn s t ≡ departmentIn s u → 0 < decidedIn s t → 0 < decidedIn s u → decidedIn s t ≡ decidedIn s u
   -- "each decided revision was offered by a station": by a begin among the accepted records
   pub validity : (t : ℕ) → 0 < decidedIn s t
-      → (i : ℕ) × (i < playedOf s .accepted) × OfferedAt (firstFloor (boxesOf s) (stationsOf s)) (acceptedIn s) (decidedIn s t) i
+      → (i : ℕ) × (i < playedOf s .accepted) × OfferedAt (startOf s) (acceptedIn s) (departmentIn s t) (decidedIn s t) i

@@ -8,11 +8,12 @@ use mathlib.Core.List.{List}
 use Rattle.requests.specs.Requests.{heardFrom}
 use Rattle.requests.specs.declared.Phase.{Phase}
 use Rattle.attempts.specs.Rows.{requestsOf}
-use Rattle.floor.specs.Floors.{rowAt}
+use Rattle.register.specs.declared.Department.{Department}
+use Rattle.floor.specs.Floors.{rowAt, usedOf, highestOf, InUse}
 use Rattle.floor.specs.Free.{isFree}
 use Rattle.floor.specs.Runs.{floorAt}
 use Rattle.floor.specs.declared.Floor.{Floor}
-use Rattle.agreement.specs.Words.{Before, Attempt, attemptRank, Named, ServedAt, ServesAt, DeliversAt, FreedAt, FreeAt, attemptsBefore}
+use Rattle.agreement.specs.Words.{Before, Attempt, attemptRank, attemptDepartment, Named, ServedAt, ServesAt, DeliversAt, FreedAt, FreeAt, attemptsBefore}
 use Rattle.agreement.specs.Demand.{firstFloor}
 
 module _ (f : Floor) (l : List (List ℕ)) where
@@ -26,30 +27,30 @@ module _ (f : Floor) (l : List (List ℕ)) where
     pub served : Before (ServesAt f l y phase b) i
     pub delivered : Before (DeliversAt f l y phase b) i
 
-  -- the highest rank begun before the step at i is h
-  pub record HighestAt (h i : ℕ) : Type 0 where
-    pub each : (x : Attempt f l) → x .at < i → attemptRank f l x ≤ h
-    pub some : (h ≡ 0) ⊎ ((x : Attempt f l) × (x .at < i) × (attemptRank f l x ≡ h))
+  -- the highest rank begun in the department before the step at i is h
+  pub record HighestAt (d : Department) (h i : ℕ) : Type 0 where
+    pub each : (x : Attempt f l) → x .at < i → attemptDepartment f l x ≡ d → attemptRank f l x ≤ h
+    pub some : (h ≡ 0) ⊎ ((x : Attempt f l) × (x .at < i) × (attemptDepartment f l x ≡ d) × (attemptRank f l x ≡ h))
 
-pub record GivenBack (n m : ℕ) (l : List (List ℕ)) : Type 0 where
+pub record GivenBack (f : Floor) (l : List (List ℕ)) : Type 0 where
   -- a row is free on the floor exactly where the words of demand 3 say so of the list
-  pub free : (a i : ℕ) → a < floorAt (firstFloor n m) l i .used → isFree (floorAt (firstFloor n m) l i) a ≡ true → FreeAt (firstFloor n m) l a i
-  pub free-holds : (a i : ℕ) → FreeAt (firstFloor n m) l a i → (a < floorAt (firstFloor n m) l i .used) × (isFree (floorAt (firstFloor n m) l i) a ≡ true)
-  -- as many rows are in use as attempts were begun, up to 64
-  pub used : (i : ℕ) → ((attemptsBefore (firstFloor n m) l i ≤ 64) × (floorAt (firstFloor n m) l i .used ≡ attemptsBefore (firstFloor n m) l i))
-      ⊎ ((64 < attemptsBefore (firstFloor n m) l i) × (floorAt (firstFloor n m) l i .used ≡ 64))
-  -- "the highest rank begun alone, which the floor keeps": of the whole history
-  pub highest : (i : ℕ) → HighestAt (firstFloor n m) l (floorAt (firstFloor n m) l i .highest) i
+  pub free : (a i : ℕ) → InUse (floorAt f l i) a → isFree (floorAt f l i) a ≡ true → FreeAt f l a i
+  pub free-holds : (a i : ℕ) → FreeAt f l a i → InUse (floorAt f l i) a × (isFree (floorAt f l i) a ≡ true)
+  -- as many rows of a department are in use as attempts of it were begun, up to 64
+  pub used : (d : Department) (i : ℕ) → ((attemptsBefore f l d i ≤ 64) × (usedOf (floorAt f l i) d ≡ attemptsBefore f l d i))
+      ⊎ ((64 < attemptsBefore f l d i) × (usedOf (floorAt f l i) d ≡ 64))
+  -- "the highest rank begun alone, which the floor keeps", in each department
+  pub highest : (d : Department) (i : ℕ) → HighestAt f l d (highestOf (floorAt f l i) d) i
   -- an attempt whose row is taken was over, and its requests were served at every box that answered
-  pub freed : (y x : Attempt (firstFloor n m) l) → Drops (firstFloor n m) l y x → FreedAt (firstFloor n m) l x (y .at)
+  pub freed : (y x : Attempt f l) → Drops f l y x → FreedAt f l x (y .at)
   -- from then on no request of it is served and no answer of it is delivered; no box serves its rank
-  pub not-served : (y x : Attempt (firstFloor n m) l) → Drops (firstFloor n m) l y x → (phase : Phase) (b k : ℕ) → y .at ≤ k → ¬ ServesAt (firstFloor n m) l x phase b k
-  pub not-delivered : (y x : Attempt (firstFloor n m) l) → Drops (firstFloor n m) l y x → (phase : Phase) (b k : ℕ) → y .at ≤ k → ¬ DeliversAt (firstFloor n m) l x phase b k
-  pub rank-not-served : (y x : Attempt (firstFloor n m) l) → Drops (firstFloor n m) l y x → (b k : ℕ) → y .at ≤ k → ¬ ServedAt (firstFloor n m) l (attemptRank (firstFloor n m) l x) b k
+  pub not-served : (y x : Attempt f l) → Drops f l y x → (phase : Phase) (b k : ℕ) → y .at ≤ k → ¬ ServesAt f l x phase b k
+  pub not-delivered : (y x : Attempt f l) → Drops f l y x → (phase : Phase) (b k : ℕ) → y .at ≤ k → ¬ DeliversAt f l x phase b k
+  pub rank-not-served : (y x : Attempt f l) → Drops f l y x → (b k : ℕ) → y .at ≤ k → ¬ ServedAt f l (attemptDepartment f l x) (attemptRank f l x) b k
   -- and no answer of it is counted for the attempt that has the row then
-  pub own-answers : (y : Attempt (firstFloor n m) l) (i : ℕ) → Named (firstFloor n m) l y i → (phase : Phase) (b : ℕ) → b < firstFloor n m .n
-      → heardFrom (requestsOf phase (rowAt (floorAt (firstFloor n m) l i) (y .number))) b ≡ true → OwnAnswer (firstFloor n m) l y phase b i
+  pub own-answers : (y : Attempt f l) (i : ℕ) → Named f l y i → (phase : Phase) (b : ℕ) → b < f .n
+      → heardFrom (requestsOf phase (rowAt (floorAt f l i) (y .number))) b ≡ true → OwnAnswer f l y phase b i
 
 -- of every list, from a new floor of any n and m
 abbrev pub GivenBackTheorem : Type 0
-GivenBackTheorem = (n m : ℕ) (l : List (List ℕ)) → GivenBack n m l
+GivenBackTheorem = (n m : ℕ) (departments : List ℕ) (l : List (List ℕ)) → GivenBack (firstFloor n m departments) l

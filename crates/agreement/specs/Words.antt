@@ -3,16 +3,20 @@
 -- the floor before a step and what the step said.
 use Prim.Native.Nat.{ℕ, _≤_, _<_}
 use mathlib.Core.Path.{_≡_}
-use mathlib.Core.Bool.{false}
+use mathlib.Core.Bool.{Bool, false}
 use mathlib.Core.List.{List, []}
 use lib.ListN.{getD}
 use Rattle.base.specs.Numbers.{rankOf}
 use Rattle.base.specs.Quorum.{count}
+use Rattle.register.specs.Register.{isOf}
+use Rattle.register.specs.declared.Department.{Department}
+use Rattle.attempts.specs.Rows.{rowDepartment}
 use Rattle.requests.specs.declared.Phase.{Phase}
 use Rattle.requests.specs.declared.Phase.the-variants.{Read, Write}
 use Rattle.floor.specs.Floors.{stationAt}
 use Rattle.commands.specs.Commands.{commandOf}
-use Rattle.commands.specs.Outcomes.{isRefused, isBegun}
+use Rattle.commands.specs.Outcomes.{isRefused}
+use Rattle.commands.specs.declared.Outcome.{Outcome}
 use Rattle.floor.specs.Runs.{floorAt, saidAt}
 use Rattle.floor.specs.declared.Floor.{Floor}
 use Rattle.commands.specs.declared.Command.{Command}
@@ -30,6 +34,18 @@ pub record Before (P : ℕ → Type 0) (i : ℕ) : Type 0 where
 abbrev pub commandAt : (l : List (List ℕ)) (i : ℕ) → Command
 commandAt l i = commandOf (getD l i [])
 
+-- the step said that an attempt of the department was begun
+abbrev pub begunIn : (d : Department) (o : Outcome) → Bool
+begunIn d (said.Begun a) = isOf d (rowDepartment a)
+begunIn d (said.Served a) = false
+begunIn d (said.Received a) = false
+begunIn d (said.Aborted a) = false
+begunIn d (said.WriteIssued v) = false
+begunIn d (said.Decided v) = false
+begunIn d (said.Stopped b) = false
+begunIn d (said.Gone s) = false
+begunIn d (said.Refused k) = false
+
 -- The steps of the list l from the floor f.
 module _ (f : Floor) (l : List (List ℕ)) where
   -- "An attempt is an accepted begin, with that step's station and rank; its revision is the offer." (A ballot of Paxos.) The
@@ -46,20 +62,27 @@ module _ (f : Floor) (l : List (List ℕ)) where
   abbrev pub attemptRank : (x : Attempt) → ℕ
   attemptRank x = rankOf (x .round) (x .station)
 
+  -- Wish 6 of document 02: "Sails own rows 0 to 63 and canvas 64 to 127". The department of an attempt is that of its number.
+  abbrev pub attemptDepartment : (x : Attempt) → Department
+  attemptDepartment x = rowDepartment (x .number)
+
   -- its number names the attempt x at the position i: its begin is the last before i that said this number
   pub record Named (x : Attempt) (i : ℕ) : Type 0 where
     pub earlier : x .at < i
     pub last : (k : ℕ) → x .at < k → k < i → ¬ (saidAt f l k ≡ said.Begun (x .number))
 
-  -- a revision is offered by the attempt that begins with it
-  pub record OfferedAt (v i : ℕ) : Type 0 where
+  -- a revision is offered by the attempt that begins with it, in its department
+  pub record OfferedAt (d : Department) (v i : ℕ) : Type 0 where
     pub attempt : Attempt
+    pub of : attemptDepartment attempt ≡ d
     pub begun : attempt .at ≡ i
     pub offer : attempt .offer ≡ v
 
-  -- "A rank is served at a box by an accepted serve, read or write, of its attempt there."
-  pub record ServedAt (r b i : ℕ) : Type 0 where
+  -- "A rank is served at a box by an accepted serve, read or write, of its attempt there." Wish 6: "A serve or delivery belongs to its row's
+  -- department".
+  pub record ServedAt (d : Department) (r b i : ℕ) : Type 0 where
     pub attempt : Attempt
+    pub of : attemptDepartment attempt ≡ d
     pub named : Named attempt i
     pub rank : attemptRank attempt ≡ r
     pub phase : Phase
@@ -75,6 +98,14 @@ module _ (f : Floor) (l : List (List ℕ)) where
     pub asked : commandAt l i ≡ Deliver Write (attempt .number) box
     pub accepted : saidAt f l i ≡ said.Decided v
 
+  -- a revision is decided in the department d, at the delivery that says so
+  pub record DecidedIn (d : Department) (v i : ℕ) : Type 0 where
+    pub number : ℕ
+    pub box : ℕ
+    pub of : rowDepartment number ≡ d
+    pub asked : commandAt l i ≡ Deliver Write number box
+    pub accepted : saidAt f l i ≡ said.Decided v
+
   -- the attempt x aborts, at the delivery of a write answer or, wish 2, of a read answer
   pub record AbortsAt (x : Attempt) (i : ℕ) : Type 0 where
     pub named : Named x i
@@ -83,14 +114,14 @@ module _ (f : Floor) (l : List (List ℕ)) where
     pub asked : commandAt l i ≡ Deliver phase (x .number) box
     pub accepted : saidAt f l i ≡ said.Aborted (x .number)
 
-  -- "before each abort a rank higher than the aborted one was served at a box": the abort at i
+  -- "before each abort a rank higher than the aborted one was served at a box", a rank of its department: the abort at i
   pub record OutrankedAt (i : ℕ) : Type 0 where
     pub attempt : Attempt
     pub aborts : AbortsAt attempt i
     pub rank : ℕ
     pub box : ℕ
     pub higher : attemptRank attempt < rank
-    pub served : Before (ServedAt rank box) i
+    pub served : Before (ServedAt (attemptDepartment attempt) rank box) i
 
   -- the decided revision that the floor before the step at i shows for the station s, 0 for none
   abbrev pub shownAt : (s i : ℕ) → ℕ
@@ -111,9 +142,9 @@ module _ (f : Floor) (l : List (List ℕ)) where
     pub undecided : (v : ℕ) → ¬ Before (DecidesAt s v) i
     pub aborted : (x : Attempt) → x .at < i → x .station ≡ s → Before (AbortsAt x) i
 
-  -- how many attempts were begun before the step at i
-  abbrev pub attemptsBefore : (i : ℕ) → ℕ
-  attemptsBefore i = count (λ k. isBegun (saidAt f l k)) i
+  -- how many attempts of the department were begun before the step at i
+  abbrev pub attemptsBefore : (d : Department) (i : ℕ) → ℕ
+  attemptsBefore d i = count (λ k. begunIn d (saidAt f l k)) i
 
   -- Wish 5 of document 02. "An attempt is over when its station no longer reads or writes in it: decided, aborted or gone." The attempt x
   -- decides.
@@ -163,14 +194,14 @@ module _ (f : Floor) (l : List (List ℕ)) where
     pub named : Named attempt i
     pub freed : FreedAt attempt i
 
-  -- "the solo finish asks for an unused or free row"
-  pub data RowLeft (i : ℕ) : Type 0 where
-    unused : attemptsBefore i < 64 → RowLeft i
-    free : (a : ℕ) → FreeAt a i → RowLeft i
+  -- "the solo finish asks for an unused or free row", in its department
+  pub data RowLeft (d : Department) (i : ℕ) : Type 0 where
+    unused : attemptsBefore d i < 64 → RowLeft d i
+    free : (a : ℕ) → rowDepartment a ≡ d → FreeAt a i → RowLeft d i
 
-  -- "a round left that outranks every attempt begun", by the station s
-  pub record RoundLeft (s i : ℕ) : Type 0 where
+  -- "a round left that outranks every attempt begun", by the station s. Wish 6: "the solo finish outranks its own only"
+  pub record RoundLeft (d : Department) (s i : ℕ) : Type 0 where
     pub round : ℕ
     pub least : 1 ≤ round
     pub most : round ≤ 65535
-    pub outranks : (x : Attempt) → x .at < i → attemptRank x < rankOf round s
+    pub outranks : (x : Attempt) → x .at < i → attemptDepartment x ≡ d → attemptRank x < rankOf round s

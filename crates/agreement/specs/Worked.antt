@@ -1,4 +1,4 @@
--- Document 01's examples I and J, a read that is outranked, and a row that is free, in the words of demand 3, so that the claim is not about nothing. The proof
+-- Document 01's examples I and J, a read that is outranked, a row that is free, and two departments, in the words of demand 3, so that the claim is not about nothing. The proof
 -- is `worked` in proofs/Worked.
 use Prim.Native.Nat.{ℕ, _<_}
 use mathlib.Core.Path.{_≡_}
@@ -8,7 +8,9 @@ use Rattle.requests.specs.declared.Phase.the-variants.{Read, Write}
 use Rattle.commands.specs.Commands.{encodeOf}
 use Rattle.commands.specs.declared.Command.the-variants.{Begin, Serve, Deliver, Stop}
 use Rattle.commands.specs.declared.Outcome.the-variants as said
-use Rattle.floor.specs.Floors.{boxAt}
+use Rattle.register.specs.declared.Department.{Department}
+use Rattle.register.specs.declared.Department.the-variants.{Sails, Canvas}
+use Rattle.floor.specs.Floors.{registerAt}
 use Rattle.floor.specs.Runs.{floorLeft, saidAt}
 use Rattle.floor.specs.declared.Floor.{Floor}
 use Rattle.solo.specs.Solo.{soloOf}
@@ -39,23 +41,36 @@ outrankedRead =
 abbrev pub single : List (List ℕ)
 single = encodeOf (Begin 0 1 7) ∷ encodeOf (Serve Read 0 0) ∷ encodeOf (Deliver Read 0 0) ∷ encodeOf (Serve Write 0 0) ∷ encodeOf (Deliver Write 0 0) ∷ []
 
+-- Wish 6: a sails and a canvas station on one box, with equal rounds; their attempts are 0 and 64.
+abbrev pub both : List (List ℕ)
+both =
+    encodeOf (Begin 0 1 7) ∷ encodeOf (Begin 1 1 9) ∷ encodeOf (Serve Read 0 0) ∷ encodeOf (Serve Read 64 0) ∷ encodeOf (Deliver Read 0 0) ∷ encodeOf (Deliver Read 64 0)
+    ∷ encodeOf (Serve Write 64 0) ∷ encodeOf (Serve Write 0 0) ∷ encodeOf (Deliver Write 0 0) ∷ encodeOf (Deliver Write 64 0) ∷ []
+
+abbrev pub two : Floor
+two = firstFloor 1 2 (0 ∷ 1 ∷ [])
+
+-- what the box holds for a department behind it
+abbrev pub heldFor : (d : Department) → ℕ
+heldFor d = registerAt (floorLeft two both) d 0 .value
+
 abbrev pub one : Floor
-one = firstFloor 1 1
+one = firstFloor 1 1 (0 ∷ [])
 
 abbrev pub three : Floor
-three = firstFloor 3 2
+three = firstFloor 3 2 (0 ∷ 0 ∷ [])
 
 abbrev pub five : Floor
-five = firstFloor 5 1
+five = firstFloor 5 1 (0 ∷ [])
 
 -- the value that a box holds behind example I
 abbrev pub heldAt : (b : ℕ) → ℕ
-heldAt b = boxAt (floorLeft three exampleI) b .register .value
+heldAt b = registerAt (floorLeft three exampleI) Sails b .value
 
 pub record Worked : Type 0 where
   -- I: a station decides 9; rank 17 is served at box 1, and before attempt 0 aborted a rank above its own was
   pub decides : (s : ℕ) × DecidesAt three exampleI s 9 13
-  pub served : ServedAt three exampleI 17 1 6
+  pub served : ServedAt three exampleI Sails 17 1 6
   pub outranked : OutrankedAt three exampleI 17
   -- wish 2: attempt 0 aborts at its first read answer, and before that a rank above its own was served
   pub told : (commandAt outrankedRead 4 ≡ Deliver Read 0 0) × (saidAt three outrankedRead 4 ≡ said.Aborted 0)
@@ -63,6 +78,10 @@ pub record Worked : Type 0 where
   -- wish 5: behind its decision the row of attempt 0 is free, and before it is not, though all its requests are served
   pub free : FreeAt one single 0 5
   pub not-free : ¬ FreeAt one single 0 4
+  -- wish 6: each department decides its own revision, and the box holds both
+  pub first-decided : saidAt two both 8 ≡ said.Decided 7
+  pub second-decided : saidAt two both 9 ≡ said.Decided 9
+  pub both-held : (heldFor Sails ≡ 7) × (heldFor Canvas ≡ 9)
   -- J: with 2 of 5 boxes stopped, whatever revision station 0 offers
   pub alone : (v : ℕ) → 0 < v → v < 4294967296 → DrivenAlone five stops 0 v (soloOf (floorLeft five stops) 0 v)
   pub thirteen : (v : ℕ) → 0 < v → v < 4294967296 → soloOf (floorLeft five stops) 0 v .steps ≡ 13

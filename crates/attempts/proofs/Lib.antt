@@ -1,4 +1,5 @@
 pub mod Answers
+pub mod RowDepartments
 pub mod Past
 pub mod StationTests
 pub mod UsedLaws

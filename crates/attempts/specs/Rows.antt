@@ -6,7 +6,9 @@ use lib.ListN.{getD, set, replicate}
 use lib.Dec.{ltb}
 use Rattle.base.specs.Choice.{if_then_else_}
 use Rattle.base.specs.Numbers.{rankOf}
-use Rattle.register.specs.Register.{isHeld, rankIn, valueIn, holdsNothing, rmwRead, rmwWrite}
+use Rattle.register.specs.Register.{ofDepartment, isHeld, rankIn, valueIn, holdsNothing, rmwRead, rmwWrite}
+use Rattle.register.specs.declared.Department.{Department}
+use Rattle.register.specs.declared.Department.the-variants.{Sails, Canvas}
 use Rattle.register.specs.declared.Register.{Register}
 use Rattle.register.specs.declared.ReadDone.{ReadDone}
 use Rattle.requests.specs.Requests.{ofPhase, requests0, noneIssued, heardFrom, standingOf, isWaiting, issuedTo, servedAt, receivedFrom}
@@ -26,6 +28,14 @@ row0 = record { station = 0; rank = 0; offer = 0; written = 0; read = requests0;
 -- "On a new floor places not in use are 0, idle, not issued": a row that is not in use.
 abbrev pub unusedRow : Row
 unusedRow = record { station = 0; rank = 0; offer = 0; written = 0; read = noneIssued; answers = replicate 9 answer0; write = noneIssued }
+
+-- Wish 6 of document 02: "Sails own rows 0 to 63 and canvas 64 to 127". The department that owns the row a, and the first row of a
+-- department; a department has 64 rows from there on.
+unfoldable pub rowDepartment : (a : ℕ) → Department
+rowDepartment a = if ltb a 64 then Sails else Canvas
+
+abbrev pub firstRow : (department : Department) → ℕ
+firstRow department = ofDepartment department 0 64
 
 -- one phase of a row at every box
 abbrev pub requestsOf : (phase : Phase) (w : Row) → Requests

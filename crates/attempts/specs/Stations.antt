@@ -4,6 +4,7 @@ use mathlib.Core.Bool.{Bool, true, false}
 use lib.Dec.{eqb}
 use Rattle.requests.specs.Requests.{ofPhase}
 use Rattle.requests.specs.declared.Phase.{Phase}
+use Rattle.register.specs.declared.Department.the-variants.{Sails}
 use Rattle.attempts.specs.declared.State.{State}
 use Rattle.attempts.specs.declared.State.the-variants.{Idle, Reading, Writing, Decided, Gone}
 use Rattle.attempts.specs.declared.Station.{Station}
@@ -11,11 +12,11 @@ use Rattle.attempts.specs.declared.Station.{Station}
 -- "On a new floor places not in use are 0, idle, not issued." It is also what a read past the end of an array gives by the language's
 -- own rule.
 abbrev pub station0 : Station
-station0 = record { state = Idle; last = 0; decided = 0 }
+station0 = record { department = Sails; state = Idle; last = 0; decided = 0 }
 
--- the station x in another state; its last round and its decided revision stay
+-- the station x in another state; its department, its last round and its decided revision stay
 abbrev pub withState : (x : Station) (state : State) → Station
-withState x state = record { state = state; last = x .last; decided = x .decided }
+withState x state = record { department = x .department; state = state; last = x .last; decided = x .decided }
 
 -- "A station has a state that is idle, reading, writing, decided or gone, with the attempt it is in."
 abbrev pub isGone : (state : State) → Bool

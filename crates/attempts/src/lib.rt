@@ -1,4 +1,5 @@
 // An attempt: its row, with what its two phases were answered, and the station that is in it.
+use register::Department;
 use register::Register;
 use requests::Requests;
 
@@ -6,6 +7,8 @@ mod rows;
 mod states;
 
 pub use rows::comes;
+pub use rows::department_of;
+pub use rows::first_row;
 pub use rows::issue;
 pub use rows::new_row;
 pub use rows::requests_of;
@@ -31,8 +34,9 @@ pub enum State {
     Gone,
 }
 
-// A station: the paper's client. Its last round and its decided revision (0: none) survive its going.
+// A station: the paper's client, of one department. Its last round and its decided revision (0: none) survive its going.
 pub struct Station {
+    pub department: Department,
     pub state: State,
     pub last: u16,
     pub decided: u32,

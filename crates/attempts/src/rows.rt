@@ -3,10 +3,11 @@ ghost use mathlib.Core.Path.{_≡_};
 ghost use Prim.Native.Nat.{_≤_};
 ghost use Rattle.requests.specs.declared.Phase.the-variants.{Read, Write};
 ghost use Rattle.requests.specs.Requests.{standingOf, isWaiting, isOnTheWay};
-ghost use Rattle.attempts.specs.Rows.{unusedRow, requestsOf, newRow, better, bestOf, revisionOf, waitsAt, usedAfter, issued, rowServed, registerServed, withRequests};
+ghost use Rattle.attempts.specs.Rows.{unusedRow, rowDepartment, firstRow, requestsOf, newRow, better, bestOf, revisionOf, waitsAt, usedAfter, issued, rowServed, registerServed, withRequests};
 use crate::Answer;
 use crate::Row;
 use crate::Served;
+use register::Department;
 use register::Register;
 use requests::Phase;
 use requests::Requests;
@@ -16,6 +17,26 @@ pub struct Best {
     pub found: bool,
     pub rank: u32,
     pub value: u32,
+}
+
+// The department that owns the row a.
+pub fn department_of(a: u8) -> Department
+    ensures { λ r. ⌜ r ≡ rowDepartment a ⌝ }
+{
+    if a < 64 {
+        return Department::Sails;
+    }
+    Department::Canvas
+}
+
+// The first row of the department.
+pub fn first_row(d: Department) -> u8
+    ensures { λ r. ⌜ r ≡ firstRow d ⌝ }
+{
+    match d {
+        Department::Sails => 0,
+        Department::Canvas => 64,
+    }
 }
 
 // A row that is not in use.

@@ -1,6 +1,7 @@
 -- The claims, proved.
-use Rattle.base.specs.Claims.{SizeClaims, Spelling, PartClaims, Quorums, Masks}
+use Rattle.base.specs.Claims.{SizeClaims, DepartmentClaims, Spelling, PartClaims, Quorums, Masks}
 use Rattle.base.proofs.SizeLaws.{sizes-mean, sizes-hold}
+use Rattle.base.proofs.DepartmentLaws.{departments-mean, departments-hold}
 use Rattle.base.proofs.ByteLaws.{word16-of-bytes, word32-of-bytes, bytes16-of-word, bytes32-of-word, bytes16-length, bytes32-length, bytes16-bytes, bytes32-bytes}
 use Rattle.base.proofs.PartLaws.{part-length, part-whole, part-part, part-same, part-once}
 use Rattle.base.proofs.QuorumLaws.{more-than-half, majority-of, majority-meet}
@@ -8,6 +9,9 @@ use Rattle.base.proofs.MaskLaws.{bit-zero, bit-same, bit-other, count-b
 
 pub sizes : SizeClaims
 sizes = record { means = sizes-mean; holds = sizes-hold }
+
+pub departments : DepartmentClaims
+departments = record { means = departments-mean; holds = departments-hold }
 
 pub spelling : Spelling
 spelling = record {

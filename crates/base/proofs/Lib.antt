@@ -9,6 +9,7 @@ pub mod PartLaws
 pub mod PutLaws
 pub mod WritingLaws
 pub mod SizeLaws
+pub mod DepartmentLaws
 pub mod QuorumLaws
 pub mod MaskLaws
 pub mod Claims

@@ -1,13 +1,14 @@
--- What is claimed of the sizes of a floor, of the bytes of numbers, of parts of slices, and of sets of boxes. The proofs are `sizes`,
--- `spelling`, `part-claims`, `quorums` and `masks` in proofs/Claims.
+-- What is claimed of the sizes of a floor, of department bytes, of the bytes of numbers, of parts of slices, and of sets of boxes. The
+-- proofs are `sizes`, `departments`, `spelling`, `part-claims`, `quorums` and `masks` in proofs/Claims.
 use mathlib.Core.Path.{_≡_}
 use mathlib.Core.Logic.{_↔_}
 use mathlib.Core.Bool.{Bool, true, false}
 use mathlib.Core.List.{List, [], _∷_}
 use Prim.Native.Nat.{ℕ, _+_, _*_, _/_, _%_, _^_, _≤_, _<_}
-use lib.ListN.{length}
+use lib.ListN.{length, getD}
 use denote.Ref.{RefT}
 use Rattle.base.specs.Numbers.{sizesRight, quorum}
+use Rattle.base.specs.Departments.{departmentsWrong}
 use Rattle.base.specs.Bytes.{Bytes, word16, word32, bytes16, bytes32}
 use Rattle.base.specs.Part.{IsPart}
 use Rattle.base.specs.Mask.{bit, setBit, countBelow}
@@ -24,6 +25,15 @@ pub record Sizes (n m : ℕ) : Type 0 where
 pub record SizeClaims : Type 0 where
   pub means : (n m : ℕ) → sizesRight n m ≡ true → Sizes n m
   pub holds : (n m : ℕ) → Sizes n m → sizesRight n m ≡ true
+
+-- Refusal 22 does not apply to department bytes that are to be k: so many, each 0 or 1.
+pub record Departments (k : ℕ) (bs : List ℕ) : Type 0 where
+  pub count : length bs ≡ k
+  pub each : (i : ℕ) → i < length bs → getD bs i 0 ≤ 1
+
+pub record DepartmentClaims : Type 0 where
+  pub means : (k : ℕ) (bs : List ℕ) → departmentsWrong k bs ≡ false → Departments k bs
+  pub holds : (k : ℕ) (bs : List ℕ) → Departments k bs → departmentsWrong k bs ≡ false
 
 -- The bytes of numbers.
 pub record Spelling : Type 0 where

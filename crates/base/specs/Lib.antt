@@ -1,5 +1,6 @@
 pub mod Choice
 pub mod Numbers
+pub mod Departments
 pub mod Bytes
 pub mod Writing
 pub mod Records

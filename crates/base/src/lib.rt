@@ -1,11 +1,12 @@
-// What several crates compute: big-endian numbers, bytes at places of a slice, the size of a quorum, and refusal 3; and what their writers
-// answer.
+// What several crates compute: big-endian numbers, bytes at places of a slice, the size of a quorum, and the refusals 3 and 22;
+// and what their writers answer.
 ghost use mathlib.Core.Path.{_≡_};
 ghost use Prim.Native.Nat.{_+_};
 ghost use lib.Dec.{leb};
 ghost use lib.ListN.{length, getD};
 ghost use Rattle.base.specs.Choice.{if_then_else_};
 ghost use Rattle.base.specs.Numbers.{sizesRight, quorum};
+ghost use Rattle.base.specs.Departments.{notDepartments, departmentsWrong};
 ghost use Rattle.base.specs.Bytes.{word16, word32, bytes16, bytes32, wordAt, withWord, bytesPut};
 
 // What came of writing: the size of what was written, and the refusal. One of them is 0.
@@ -127,4 +128,28 @@ pub fn sizes_right(n: u8, m: u8) -> bool
         return false;
     }
     true
+}
+
+// Whether a department byte is not 0 or 1.
+pub fn not_departments(s: &[u8]) -> bool
+    ensures { λ y. ⌜ y ≡ notDepartments (now (s .entry)) ⌝ }
+{
+    let mut i = 0;
+    while i < s.len() {
+        if 1 < s[i] {
+            return true;
+        }
+        i += 1;
+    }
+    false
+}
+
+// Refusal 22, of department bytes that are to be k.
+pub fn departments_wrong(k: usize, s: &[u8]) -> bool
+    ensures { λ y. ⌜ y ≡ departmentsWrong k (now (s .entry)) ⌝ }
+{
+    if s.len() != k {
+        return true;
+    }
+    not_departments(s)
 }

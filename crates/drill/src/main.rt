@@ -131,9 +131,9 @@ fn report(file: &[u8], out: &mut [u8]) -> usize
     put_end(out, b, played.accepted, played.refusal)
 }
 
-// A file has at most 32,806 bytes: of a longer input one byte more is read, and refused with 1.
+// A file has at most 32,822 bytes: of a longer input one byte more is read, and refused with 1.
 fn main() {
-    let mut input = [0u8; 32807];
+    let mut input = [0u8; 32823];
     let got = io::read_full(0, &mut input);
     let mut out = [0u8; 1024];
     let end = report(&input[..got], &mut out);

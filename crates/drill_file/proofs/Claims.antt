@@ -3,7 +3,7 @@ use lib.ListN.{length}
 use Rattle.drill_file.specs.Claims.{FileClaims, WriterClaims}
 use Rattle.drill_file.proofs.TestLaws.{accepted-passed, passed-accepted}
 use Rattle.drill_file.proofs.FileLaws.{header-number, header-values, accepted-values}
-use Rattle.drill_file.proofs.LayoutLaws.{header-layout, written-accepted, written-label, written-records}
+use Rattle.drill_file.proofs.LayoutLaws.{header-layout, written-accepted, written-version, written-label, written-departments, written-records, one-listed, none-in-one, each-in-two}
 use Rattle.drill_file.proofs.WriterLaws.{unrefused, refused-none}
 use Rattle.drill_file.proofs.WrittenLaws.{left-filled, left-untouched, reads-back, writes-again, writes-short, parts-apart}
 
@@ -16,8 +16,13 @@ file-claims = record {
   values = accepted-values;
   layout = header-layout;
   reads = written-accepted;
+  version = written-version;
   label = written-label;
+  departments = written-departments;
   records = written-records;
+  listed = one-listed;
+  one = none-in-one;
+  two = each-in-two;
 }
 
 pub writer-claims : WriterClaims

@@ -9,12 +9,12 @@ use Rattle.base.specs.Records.{recordsIn}
 use Rattle.base.proofs.Choices.{on-true}
 use Rattle.base.proofs.RecordLaws.{records-length}
 use Rattle.base.proofs.WritingLaws.{no-size, buffer-kept, size-is, buffer-is, bytes-stand, behind-kept, room-kept}
-use Rattle.drill_file.specs.Claims.{FileParts, partsOf, fileIn, Filled, Untouched, ReadBack, WrittenAgain}
-use Rattle.drill_file.specs.DrillFile.{boxesOf, stationsOf, labelOf, recordsStart, fileRefusal, headerOf, recordsOf}
+use Rattle.drill_file.specs.Claims.{PartsRight, partsOf, fileIn, Filled, Untouched, ReadBack, WrittenAgain}
+use Rattle.drill_file.specs.DrillFile.{versionOf, boxesOf, stationsOf, labelOf, departmentsOf, recordsStart, fileRefusal, headerOf, recordsOf}
 use Rattle.drill_file.specs.Layout.{bodyOf, fileOf}
 use Rattle.drill_file.specs.Writer.{DrillParts, fileFrom, writeRefusal, writtenSize, writtenBuffer}
 use Rattle.drill_file.specs.declared.Header.the-variants.{Accepted}
-use Rattle.drill_file.proofs.LayoutLaws.{rest-records, rest-whole, accepted-rest, accepted-parts, accepted-exactly, written-passed, written-accepted, written-label, written-records}
+use Rattle.drill_file.proofs.LayoutLaws.{rest-records, rest-whole, accepted-rest, accepted-parts, accepted-exactly, written-version, written-passed, written-accepted, written-label, written-departments, written-records}
 use Rattle.drill_file.proofs.WriterLaws.{run-joined, file-size, unrefused, refused-short, refused-none}
 
 -- a refused buffer
@@ -40,24 +40,32 @@ module _ (b : List ℕ) (p : DrillParts) (e : writeRefusal (length b) p ≡ 0) w
       }
 
 -- the file of parts that a file may have, read
-module _ (p : DrillParts) (f : FileParts (p .boxes) (p .stations) (p .label) (recordsIn (p .run))) where
+module _ (p : DrillParts) (f : PartsRight p) where
   from-records : recordsOf (fileFrom p) ≡ recordsIn (p .run)
   unfolding fileFrom
-  from-records = written-records (p .boxes) (p .stations) (p .label) (recordsIn (p .run)) f
+  from-records = written-records (p .version) (p .boxes) (p .stations) (p .label) (p .departments) (recordsIn (p .run)) f
 
   from-passed : fileRefusal (fileFrom p) ≡ 0
   unfolding fileFrom
-  from-passed = written-passed (p .boxes) (p .stations) (p .label) (recordsIn (p .run)) f
+  from-passed = written-passed (p .version) (p .boxes) (p .stations) (p .label) (p .departments) (recordsIn (p .run)) f
 
-  from-header : headerOf (fileFrom p) ≡ Accepted (p .boxes) (p .stations) (6 + length (p .label)) (length (p .run) / 8)
+  from-header : headerOf (fileFrom p) ≡ Accepted (p .boxes) (p .stations) (6 + length (p .label) + length (p .departments)) (length (p .run) / 8)
   unfolding fileFrom
   from-header =
-      written-accepted (p .boxes) (p .stations) (p .label) (recordsIn (p .run)) f
-      ∙ ap (Accepted (p .boxes) (p .stations) (6 + length (p .label))) (records-length (length (p .run) / 8) (p .run) 0)
+      written-accepted (p .version) (p .boxes) (p .stations) (p .label) (p .departments) (recordsIn (p .run)) f
+      ∙ ap (Accepted (p .boxes) (p .stations) (6 + length (p .label) + length (p .departments))) (records-length (length (p .run) / 8) (p .run) 0)
 
   from-label : labelOf (fileFrom p) ≡ p .label
   unfolding fileFrom
-  from-label = written-label (p .boxes) (p .stations) (p .label) (recordsIn (p .run)) f
+  from-label = written-label (p .version) (p .boxes) (p .stations) (p .label) (p .departments) (recordsIn (p .run)) f
+
+  from-departments : departmentsOf (fileFrom p) ≡ p .departments
+  unfolding fileFrom
+  from-departments = written-departments (p .version) (p .boxes) (p .stations) (p .label) (p .departments) (recordsIn (p .run)) f
+
+  from-version : versionOf (fileFrom p) ≡ p .version
+  unfolding fileFrom
+  from-version = written-version (p .version) (p .boxes) (p .stations) (p .label) (p .departments) (recordsIn (p .run))
 
   from-boxes : boxesOf (fileFrom p) ≡ p .boxes
   unfolding fileFrom fileOf bodyOf
@@ -71,7 +79,7 @@ module _ (p : DrillParts) (f : FileParts (p .boxes) (p .stations) (p .label) (re
   from-run whole = sym (accepted-rest (fileFrom p) from-passed) ∙ ap flatten from-records ∙ run-joined (p .run) whole
 
   from-parts : length (p .run) % 8 ≡ 0 → partsOf (fileFrom p) ≡ p
-  from-parts whole = rw (from-boxes, from-stations, from-label, from-run whole)
+  from-parts whole = rw (from-run whole, from-version, from-boxes, from-stations, from-label, from-departments)
 
 pub reads-back : (b : List ℕ) (p : DrillParts) → writeRefusal (length b) p ≡ 0 → ReadBack (fileIn b p) p
 reads-back b p e =
@@ -89,7 +97,7 @@ module _ (s b : List ℕ) (bytes : Bytes s) (e : fileRefusal s ≡ 0) where
   unfolding fileFrom
   taken-file = rw (rest-records s) (sym (accepted-exactly s e bytes))
 
-  taken-parts : FileParts (boxesOf s) (stationsOf s) (labelOf s) (recordsIn (drop (recordsStart s) s))
+  taken-parts : PartsRight (partsOf s)
   taken-parts = rw (rest-records s) (accepted-parts s e)
 
   pub writes-again : length s ≤ length b → WrittenAgain b s

@@ -1,4 +1,4 @@
-// The writer: a drill file from its parts, in a lent buffer (document 02, wish 1).
+// The writer: a drill file of version 1 or 2 from its parts, in a lent buffer (document 02, wishes 1 and 6).
 use base::Written;
 ghost use mathlib.Core.Path.{_≡_};
 ghost use mathlib.Core.List.{[], _∷_, _++_};
@@ -8,7 +8,7 @@ ghost use lib.ListN.{length};
 ghost use mathlib.Core.Bool.{not};
 ghost use Rattle.base.specs.Numbers.{sizesRight};
 ghost use Rattle.base.specs.Bytes.{bytes16};
-ghost use Rattle.drill_file.specs.Writer.{partsGiven, wrongText, writeRefusal, writtenSize, writtenBuffer};
+ghost use Rattle.drill_file.specs.Writer.{partsGiven, wrongText, wrongGiven, writeRefusal, writtenSize, writtenBuffer};
 
 // Refusal 3.
 fn wrong_sizes(n: u8, m: u8) -> bool
@@ -27,9 +27,16 @@ fn wrong_text(label: &[u8]) -> bool
     crate::wrong_bytes(label)
 }
 
-// Whether so many bytes of room are too few for a file whose label and whose records have so many.
-fn too_short(room: usize, letters: usize, bytes: usize) -> bool
-    ensures { λ y. ⌜ y ≡ ltb room (6 + letters + bytes) ⌝ }
+// Refusal 22.
+fn wrong_given(version: u8, m: u8, departments: &[u8]) -> bool
+    ensures { λ y. ⌜ y ≡ wrongGiven version m (now (departments .entry)) ⌝ }
+{
+    base::departments_wrong(crate::departments_due(version, m), departments)
+}
+
+// Whether so many bytes of room are too few for a file whose label, whose departments and whose records have so many.
+fn too_short(room: usize, letters: usize, codes: usize, bytes: usize) -> bool
+    ensures { λ y. ⌜ y ≡ ltb room (6 + letters + codes + bytes) ⌝ }
 {
     if room < 6 {
         return true;
@@ -38,52 +45,80 @@ fn too_short(room: usize, letters: usize, bytes: usize) -> bool
     if rest < letters {
         return true;
     }
-    rest - letters < bytes
+    let left = rest - letters;
+    if left < codes {
+        return true;
+    }
+    left - codes < bytes
 }
 
 // The first refusal that applies, 0 where none does.
-fn write_refusal(room: usize, n: u8, m: u8, label: &[u8], records: &[u8]) -> u8
-    ensures { λ y. ⌜ y ≡ writeRefusal room (partsGiven n m (now (label .entry)) (now (records .entry))) ⌝ }
+fn write_refusal(
+    room: usize,
+    version: u8,
+    n: u8,
+    m: u8,
+    label: &[u8],
+    departments: &[u8],
+    records: &[u8],
+) -> u8
+    ensures { λ y. ⌜ y ≡ writeRefusal room (partsGiven version n m (now (label .entry)) (now (departments .entry)) (now (records .entry))) ⌝ }
 {
+    if crate::unknown_version(version) {
+        return 2;
+    }
     if wrong_sizes(n, m) {
         return 3;
     }
     if wrong_text(label) {
         return 4;
     }
+    if wrong_given(version, m, departments) {
+        return 22;
+    }
     if crate::wrong_run(records.len()) {
         return 5;
     }
-    if too_short(room, label.len(), records.len()) {
+    if too_short(room, label.len(), departments.len(), records.len()) {
         return 18;
     }
     0
 }
 
 // The bytes before the label, of a file of that size whose label has so many bytes.
-fn head(size: usize, n: u8, m: u8, letters: usize) -> [u8; 6]
+fn head(size: usize, version: u8, n: u8, m: u8, letters: usize) -> [u8; 6]
     requires { ⌜ (2 ≤ size) × (size < 65536) × (letters < 256) ⌝ }
-    ensures { λ y. ⌜ y ≡ bytes16 (size - 2) ++ (1 ∷ n ∷ m ∷ letters ∷ []) ⌝ }
+    ensures { λ y. ⌜ y ≡ bytes16 (size - 2) ++ (version ∷ n ∷ m ∷ letters ∷ []) ⌝ }
 {
     let l = base::split16((size - 2) as u16);
-    [l[0], l[1], 1, n, m, letters as u8]
+    [l[0], l[1], version, n, m, letters as u8]
 }
 
 // Writes the file of these parts into the buffer.
-pub fn write_file(buffer: &mut [u8], n: u8, m: u8, label: &[u8], records: &[u8]) -> Written
-    ensures refusal { λ y. ⌜ y .refusal ≡ writeRefusal (length (now (buffer .entry))) (partsGiven n m (now (label .entry)) (now (records .entry))) ⌝ }
-    ensures size { λ y. ⌜ y .size ≡ writtenSize (length (now (buffer .entry))) (partsGiven n m (now (label .entry)) (now (records .entry))) ⌝ }
-    ensures buffer { λ _. ⌜ now (buffer .exit) ≡ writtenBuffer (now (buffer .entry)) (partsGiven n m (now (label .entry)) (now (records .entry))) ⌝ }
+pub fn write_file(
+    buffer: &mut [u8],
+    version: u8,
+    n: u8,
+    m: u8,
+    label: &[u8],
+    departments: &[u8],
+    records: &[u8],
+) -> Written
+    ensures refusal { λ y. ⌜ y .refusal ≡ writeRefusal (length (now (buffer .entry))) (partsGiven version n m (now (label .entry)) (now (departments .entry)) (now (records .entry))) ⌝ }
+    ensures size { λ y. ⌜ y .size ≡ writtenSize (length (now (buffer .entry))) (partsGiven version n m (now (label .entry)) (now (departments .entry)) (now (records .entry))) ⌝ }
+    ensures buffer { λ _. ⌜ now (buffer .exit) ≡ writtenBuffer (now (buffer .entry)) (partsGiven version n m (now (label .entry)) (now (departments .entry)) (now (records .entry))) ⌝ }
 {
-    let refusal = write_refusal(buffer.len(), n, m, label, records);
+    let refusal = write_refusal(buffer.len(), version, n, m, label, departments, records);
     if refusal != 0 {
         return Written { size: 0, refusal };
     }
-    let start = 6 + label.len();
+    let end = 6 + label.len();
+    let start = end + departments.len();
     let size = start + records.len();
-    let first = head(size, n, m, label.len());
+    let first = head(size, version, n, m, label.len());
     base::put_bytes(buffer, 0, &first);
     base::put_bytes(buffer, 6, label);
+    base::put_bytes(buffer, end, departments);
     base::put_bytes(buffer, start, records);
     Written { size, refusal }
 }
@@ -92,17 +127,19 @@ pub fn write_file(buffer: &mut [u8], n: u8, m: u8, label: &[u8], records: &[u8])
 #[no_mangle]
 pub extern "C" fn drill_write(
     buffer: &mut [u8],
+    version: u8,
     n: u8,
     m: u8,
     label: &[u8],
+    departments: &[u8],
     records: &[u8],
     size: &mut usize,
 ) -> u32
-    ensures refusal { λ y. ⌜ y ≡ writeRefusal (length (now (buffer .entry))) (partsGiven n m (now (label .entry)) (now (records .entry))) ⌝ }
-    ensures size { λ _. ⌜ now (size .exit) ≡ writtenSize (length (now (buffer .entry))) (partsGiven n m (now (label .entry)) (now (records .entry))) ⌝ }
-    ensures buffer { λ _. ⌜ now (buffer .exit) ≡ writtenBuffer (now (buffer .entry)) (partsGiven n m (now (label .entry)) (now (records .entry))) ⌝ }
+    ensures refusal { λ y. ⌜ y ≡ writeRefusal (length (now (buffer .entry))) (partsGiven version n m (now (label .entry)) (now (departments .entry)) (now (records .entry))) ⌝ }
+    ensures size { λ _. ⌜ now (size .exit) ≡ writtenSize (length (now (buffer .entry))) (partsGiven version n m (now (label .entry)) (now (departments .entry)) (now (records .entry))) ⌝ }
+    ensures buffer { λ _. ⌜ now (buffer .exit) ≡ writtenBuffer (now (buffer .entry)) (partsGiven version n m (now (label .entry)) (now (departments .entry)) (now (records .entry))) ⌝ }
 {
-    let written = write_file(buffer, n, m, label, records);
+    let written = write_file(buffer, version, n, m, label, departments, records);
     *size = written.size;
     written.refusal as u32
 }

@@ -7,7 +7,8 @@ use Rattle.base.specs.Choice.{if_then_else_}
 use Rattle.register.specs.declared.Register.{Register}
 use Rattle.requests.specs.Requests.{slotAt, heardFrom}
 use Rattle.requests.specs.declared.Phase.the-variants.{Read, Write}
-use Rattle.floor.specs.Floors.{boxAt, rowAt, stationAt, newFloorOf}
+use Rattle.register.specs.declared.Department.the-variants.{Sails}
+use Rattle.floor.specs.Floors.{rowAt, stationAt, registerAt, newFloorOf}
 use Rattle.attempts.specs.Rows.{answer0}
 use Rattle.commands.specs.Commands.{encodeOf}
 use Rattle.floor.specs.Step.{stepOf}
@@ -22,9 +23,9 @@ use Rattle.drill_file.specs.DrillFile.{labelOf}
 use Rattle.player.specs.Play.{playedOf, lastRank}
 use Rattle.examples.specs.Row.{StationLine, Printed, Shown, gathered, drove}
 
--- a new floor of n boxes, with stations 0 and 1
+-- a new floor of n boxes, with stations 0 and 1, both sails
 abbrev pub newFloor : (n : ℕ) → Floor
-newFloor n = newFloorOf n 2 .floor
+newFloor n = newFloorOf n 2 (0 ∷ 0 ∷ []) .floor
 
 -- the floor after some steps, each handed in as its record
 abbrev pub floorAfter : (n : ℕ) (cs : List Command) → Floor
@@ -56,7 +57,7 @@ abbrev pub takenAt : (f : Floor) (a : ℕ) → List Bool
 takenAt f a = slotAt (rowAt f a .write) 0 .ok ∷ slotAt (rowAt f a .write) 1 .ok ∷ slotAt (rowAt f a .write) 2 .ok ∷ []
 
 abbrev pub heldOn : (f : Floor) → List Register
-heldOn f = boxAt f 0 .register ∷ boxAt f 1 .register ∷ boxAt f 2 .register ∷ []
+heldOn f = registerAt f Sails 0 ∷ registerAt f Sails 1 ∷ registerAt f Sails 2 ∷ []
 
 -- on a floor of n boxes, some steps, and then a solo finish of station 0 with revision 7
 abbrev pub soloAfter : (n : ℕ) (cs : List Command) → Shown

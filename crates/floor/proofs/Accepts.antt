@@ -15,8 +15,7 @@ use Rattle.floor.specs.Floors.{rowAt, ownerAt}
 use Rattle.attempts.specs.Stations.{isReading, isWriting, isIn}
 use Rattle.floor.specs.Claims.{Sound, CanBegin, CanServe, CanDeliver}
 use Rattle.attempts.specs.Rows.{revisionOf}
-use Rattle.floor.specs.Free.{nextRow}
-use Rattle.floor.specs.Effects.{heardRow, stepped, afterBegin, afterServe, afterIssue, afterDecision, afterAbort, receivedOn, verdictOn, heardOn, deliveredOn}
+use Rattle.floor.specs.Effects.{heardRow, stepped, rowTaken, afterBegin, afterServe, afterIssue, afterDecision, afterAbort, receivedOn, verdictOn, heardOn, deliveredOn}
 use Rattle.floor.specs.Step.{applyOf}
 use Rattle.floor.specs.declared.Floor.{Floor}
 use Rattle.floor.specs.declared.Stepped.{Stepped}
@@ -26,7 +25,7 @@ use Rattle.floor.proofs.RefusalLaws.{begin-holds, serve-holds, deliver-
 use Rattle.floor.proofs.StepLaws.{apply-accepted}
 
 module _ (f : Floor) (z : Sound f) where
-  pub begin-accepted : (s round v : ℕ) → CanBegin f s round v → applyOf f (Begin s round v) ≡ stepped (afterBegin f s round v) (said.Begun (nextRow f))
+  pub begin-accepted : (s round v : ℕ) → CanBegin f s round v → applyOf f (Begin s round v) ≡ stepped (afterBegin f s round v) (said.Begun (rowTaken f s))
   begin-accepted s round v d = apply-accepted f (Begin s round v) z (begin-holds f s round v d)
 
   module _ (a b : ℕ) where

@@ -1,18 +1,22 @@
 -- What a step does to the boxes: which stop, and where their ranks and values come from.
-use Prim.Native.Nat.{ℕ, _<_}
+use Prim.Native.Nat.{ℕ}
 use native.Mathlib.Nat.{le-refl}
 use native.Mathlib.Omega.{arith}
 use mathlib.Core.Path.{_≡_, refl}
 use mathlib.Core.Logic.{_⊎_, inl, inr}
 use mathlib.Core.Bool.{true}
 use Rattle.base.proofs.Choices.{by-test}
-use Rattle.register.specs.Register.{rmwRead, rmwWrite, takes}
+use Rattle.register.specs.Register.{registerOf, rmwRead, rmwWrite, takes}
+use Rattle.register.specs.declared.Department.{Department}
+use Rattle.register.specs.declared.Department.the-variants.{Sails, Canvas}
 use Rattle.register.specs.declared.Register.{Register}
 use Rattle.register.specs.declared.StorageBox.{StorageBox}
 use Rattle.register.specs.declared.ReadDone.{ReadDone}
 use Rattle.register.specs.declared.WriteDone.{WriteDone}
+use Rattle.register.proofs.DepartmentLaws.{same-or-not, box-own, box-other}
 use Rattle.register.proofs.RegisterLaws.{ReadCase, outranked, answered, read-case, takes-means}
-use Rattle.floor.specs.Floors.{boxAt, rowAt}
+use Rattle.floor.specs.Floors.{boxAt, rowAt, registerAt, InUse}
+use Rattle.floor.specs.Effects.{servedBy}
 use Rattle.floor.specs.Step.{applyOf}
 use Rattle.floor.specs.Claims.{Grown, BoxMove, box-kept, box-serves, box-stops}
 use Rattle.floor.specs.declared.Floor.{Floor}
@@ -22,33 +26,36 @@ use Rattle.commands.specs.declared.Command.{Command}
 use Rattle.requests.specs.declared.Phase.{Phase}
 use Rattle.requests.specs.declared.Phase.the-variants.{Read, Write}
 use Rattle.base.proofs.Cases.{clash}
-use Rattle.attempts.specs.Rows.{registerServed}
+use Rattle.attempts.specs.Rows.{rowDepartment, registerServed}
 use Rattle.floor.proofs.Moves.{apply-box}
 
-grown-same : (f : Floor) (x : Register) → Grown f x x
-grown-same f x = record { read-up = le-refl (x .read); write-up = le-refl (x .write); read-from = inl refl; held-from = inl (refl, refl) }
+grown-same : (f : Floor) (d : Department) (x : Register) → Grown f d x x
+grown-same f d x = record { read-up = le-refl (x .read); write-up = le-refl (x .write); read-from = inl refl; held-from = inl (refl, refl) }
 
-module _ (f : Floor) (x : Register) (a : ℕ) (h : a < f .used) where
-  grown-case : {d : ReadDone} → ReadCase x (rowAt f a .rank) d → Grown f x (d .register)
-  grown-case (outranked _) = grown-same f x
-  grown-case (answered l _) = record { read-up = l; write-up = le-refl (x .write); read-from = inr (a, h, refl); held-from = inl (refl, refl) }
+module _ (f : Floor) (x : Register) (a : ℕ) (h : InUse f a) where
+  abbrev Grows : Register → Type 0
+  Grows y = Grown f (rowDepartment a) x y
 
-  grown-read : Grown f x (rmwRead x (rowAt f a .rank) .register)
+  grown-case : {d : ReadDone} → ReadCase x (rowAt f a .rank) d → Grows (d .register)
+  grown-case (outranked _) = grown-same f _ x
+  grown-case (answered l _) = record { read-up = l; write-up = le-refl (x .write); read-from = inr (a, h, refl, refl); held-from = inl (refl, refl) }
+
+  grown-read : Grows (rmwRead x (rowAt f a .rank) .register)
   grown-read = grown-case (read-case x (rowAt f a .rank))
 
-  grown-write : Grown f x (rmwWrite x (rowAt f a .rank) (rowAt f a .written) .register)
+  grown-write : Grows (rmwWrite x (rowAt f a .rank) (rowAt f a .written) .register)
   unfolding rmwWrite
   grown-write =
-      by-test (λ (w : WriteDone). Grown f x (w .register)) (takes x (rowAt f a .rank)) _ _
+      by-test (λ (w : WriteDone). Grows (w .register)) (takes x (rowAt f a .rank)) _ _
       (λ t. record {
         read-up = le-refl (x .read);
         write-up = omega (arith, takes-means x (rowAt f a .rank) t .1);
         read-from = inl refl;
-        held-from = inr (a, h, refl, refl);
+        held-from = inr (a, h, refl, refl, refl);
       })
-      (λ _. grown-same f x)
+      (λ _. grown-same f _ x)
 
-  grown-served : (p : Phase) → Grown f x (registerServed p (rowAt f a) x)
+  grown-served : (p : Phase) → Grows (registerServed p (rowAt f a) x)
   grown-served Read = grown-read
   grown-served Write = grown-write
 
@@ -63,10 +70,15 @@ module _ {f : Floor} {c : Command} {j : ℕ} where
   stopped-by (box-serves q u t) e = inl e
   stopped-by (box-stops q t) e = inr refl
 
-  grown : {o : Outcome} {x : StorageBox} → BoxMove f c j o x → Grown f (boxAt f j .register) (x .register)
-  grown box-kept = grown-same f (boxAt f j .register)
-  grown (box-serves {p = p} {a = a} q u t) = grown-served f (boxAt f j .register) a u p
-  grown (box-stops q t) = grown-same f (boxAt f j .register)
+  -- a box serves for one department, and the record of the other is untouched
+  grown : {o : Outcome} {x : StorageBox} (d : Department) → BoxMove f c j o x → Grown f d (registerAt f d j) (registerOf d x)
+  grown d box-kept = grown-same f d (registerAt f d j)
+  grown d (box-serves {p = p} {a = a} q u t) = elim (same-or-not d (rowDepartment a)) [
+    | inl e ↦ rw (e, box-own (rowDepartment a) (boxAt f j) _ (boxAt f j .stopped)) (grown-served f (registerAt f (rowDepartment a) j) a u p)
+    | inr n ↦ rw (box-other (rowDepartment a) d (boxAt f j) (registerServed p (rowAt f a) (servedBy f a j)) (boxAt f j .stopped) n) (grown-same f d (registerAt f d j))
+  ]
+  grown Sails (box-stops q t) = grown-same f Sails (registerAt f Sails j)
+  grown Canvas (box-stops q t) = grown-same f Canvas (registerAt f Canvas j)
 
 -- the box j before and after the step, and what the step said
 module _ (f : Floor) (c : Command) (j : ℕ) where
@@ -87,5 +99,5 @@ module _ (f : Floor) (c : Command) (j : ℕ) where
   stopped-from = stopped-by (apply-box f c j)
 
   -- a box's ranks never fall, and each is its old one or that of a row in use
-  pub box-grown : Grown f (before .register) (after .register)
-  box-grown = grown (apply-box f c j)
+  pub box-grown : (d : Department) → Grown f d (registerOf d before) (registerOf d after)
+  box-grown d = grown d (apply-box f c j)

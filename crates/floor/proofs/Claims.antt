@@ -12,8 +12,8 @@ use Rattle.floor.proofs.Numbered.{refused-number, apply-number, apply-v
 use Rattle.floor.proofs.Outcomes.{step-means}
 use Rattle.floor.proofs.Moves.{apply-station, apply-box, apply-row}
 use Rattle.floor.proofs.BoxLaws.{stopped-stays, box-grown}
-use Rattle.floor.proofs.StationLaws.{gone-stays, last-from, decided-from}
-use Rattle.floor.proofs.RowLaws.{apply-used, apply-highest, row-same, step-counted}
+use Rattle.floor.proofs.StationLaws.{gone-stays, department-stays, last-from, decided-from}
+use Rattle.floor.proofs.RowLaws.{apply-share, row-same, step-counted}
 use Rattle.floor.proofs.StandingLaws.{apply-standing}
 use Rattle.floor.proofs.FreeLaws.{free-means, free-holds, takes-row}
 use Rattle.floor.proofs.RunMeans.{run-ran, run-played}
@@ -37,15 +37,15 @@ step-claims = record {
   standing = λ f r z y a h p b k. apply-standing f z y a h p b k (commandOf r);
   stopped-stays = λ f r. stopped-stays f (commandOf r);
   gone-stays = λ f r. gone-stays f (commandOf r);
-  grown = λ f r. box-grown f (commandOf r);
+  grown = λ f r d j. box-grown f (commandOf r) j d;
   last-from = λ f r. last-from f (commandOf r);
   decided-from = λ f r. decided-from f (commandOf r);
-  used = λ f r. apply-used f (commandOf r);
+  department = λ f r. department-stays f (commandOf r);
   attempt = λ f r. row-same f (commandOf r);
   free = free-means;
   free-holds = free-holds;
   takes = takes-row;
-  highest-from = λ f r. apply-highest f (commandOf r);
+  share-from = λ f r. apply-share f (commandOf r);
   counted = step-counted;
 }
 

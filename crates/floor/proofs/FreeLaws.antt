@@ -1,5 +1,5 @@
 -- What a free row is, and which row a begin takes.
-use Prim.Native.Nat.{ℕ, zero, suc, _<_, _≤_}
+use Prim.Native.Nat.{ℕ, zero, suc, _+_, _-_, _<_, _≤_}
 use native.Mathlib.Omega.{arith}
 use native.Mathlib.Nat.{le-refl}
 use native.Mathlib.Decide.{decLt}
@@ -12,12 +12,14 @@ use borrow.Author.Tests.{lt-ltb, le-ltb, ltb-true, ltb-false}
 use Rattle.base.proofs.Cases.{clash, up-to}
 use Rattle.base.proofs.Choices.{on-true, on-false, first-false, by-test}
 use Rattle.register.specs.Register.{box0}
+use Rattle.register.specs.declared.Department.{Department}
 use Rattle.register.specs.declared.StorageBox.{StorageBox}
 use Rattle.attempts.specs.Stations.{isActive}
-use Rattle.attempts.specs.Rows.{waitsAt, usedAfter}
+use Rattle.attempts.specs.Rows.{rowDepartment, firstRow, waitsAt, usedAfter}
+use Rattle.attempts.proofs.RowDepartments.{row-own, first-most, row-least, row-number, row-most}
 use Rattle.attempts.specs.declared.Row.{Row}
 use Rattle.attempts.proofs.UsedLaws.{used-more, used-full, none-waits, waits-none}
-use Rattle.floor.specs.Floors.{rowAt, ownerAt}
+use Rattle.floor.specs.Floors.{rowAt, ownerAt, usedOf, endOf}
 use Rattle.floor.specs.Free.{stillServed, allServed, freeIn, isFree, lowerIn, betterIn, noRow, freeBelow, nextRow}
 use Rattle.floor.specs.Claims.{Free, TakesRow, unused, free, none}
 use Rattle.floor.specs.declared.Floor.{Floor}
@@ -70,133 +72,157 @@ module _ (f : Floor) (a : ℕ) where
   free-holds z =
       sym (on-false _ (z .over) (sym (served-holds (rowAt f a) (f .boxes) (f .n) (λ b h s. waits-none (rowAt f a) b (z .served b h s)))))
 
--- the row k, with its rank
+-- the row a, with its rank
 abbrev at : Floor → ℕ → Lowest
-at f k = record { row = k; rank = rowAt f k .rank }
+at f a = record { row = a; rank = rowAt f a .rank }
 
--- the best of the first k rows
-data BestBelow (f : Floor) (k : ℕ) : Lowest → Type 0 where
-  best : {a : ℕ} → a < k → isFree f a ≡ true → ((c : ℕ) → c < k → isFree f c ≡ true → rowAt f a .rank ≤ rowAt f c .rank)
-      → ((c : ℕ) → c < a → isFree f c ≡ true → rowAt f a .rank < rowAt f c .rank) → BestBelow f k (at f a)
-  nothing : ((c : ℕ) → c < k → isFree f c ≡ false) → BestBelow f k noRow
-
-lower-means : (x : Lowest) (rank : ℕ) → x .row < 64 → lowerIn x rank ≡ true → rank < x .rank
+lower-means : (x : Lowest) (rank : ℕ) → x .row < 128 → lowerIn x rank ≡ true → rank < x .rank
 unfolding lowerIn
-lower-means x rank h e = ltb-true rank (x .rank) (on-true true (lt-ltb (x .row) 64 h) refl ∙ e)
+lower-means x rank h e = ltb-true rank (x .rank) (on-true true (lt-ltb (x .row) 128 h) refl ∙ e)
 
-lower-not : (x : Lowest) (rank : ℕ) → x .row < 64 → lowerIn x rank ≡ false → x .rank ≤ rank
+lower-not : (x : Lowest) (rank : ℕ) → x .row < 128 → lowerIn x rank ≡ false → x .rank ≤ rank
 unfolding lowerIn
-lower-not x rank h e = ltb-false rank (x .rank) (on-true true (lt-ltb (x .row) 64 h) refl ∙ e)
+lower-not x rank h e = ltb-false rank (x .rank) (on-true true (lt-ltb (x .row) 128 h) refl ∙ e)
 
 lower-first : (rank : ℕ) → lowerIn noRow rank ≡ true
 unfolding lowerIn
-lower-first rank = sym (on-false _ (le-ltb 64 64 (omega arith)) refl)
+lower-first rank = sym (on-false _ (le-ltb 128 128 (omega arith)) refl)
 
-module _ (f : Floor) where
+module _ (f : Floor) (d : Department) where
+  -- the rows of the department, by their numbers in it
+  abbrev own : ℕ → ℕ
+  own k = firstRow d + k
+
   abbrev rank : ℕ → ℕ
-  rank a = rowAt f a .rank
+  rank k = rowAt f (own k) .rank
+
+  abbrev freed : ℕ → Bool
+  freed k = isFree f (own k)
+
+  own-most : (k : ℕ) → k < 64 → own k < 128
+  own-most k h = omega (arith, first-most d)
+
+  -- the best of the first k
+  data BestBelow (k : ℕ) : Lowest → Type 0 where
+    best : {a : ℕ} → a < k → freed a ≡ true → ((c : ℕ) → c < k → freed c ≡ true → rank a ≤ rank c)
+        → ((c : ℕ) → c < a → freed c ≡ true → rank a < rank c) → BestBelow k (at f (own a))
+    nothing : ((c : ℕ) → c < k → freed c ≡ false) → BestBelow k noRow
 
   module _ (k : ℕ) (h : k < 64) where
     abbrev Next : Lowest → Type 0
-    Next x = BestBelow f (suc k) x
+    Next x = BestBelow (suc k) x
 
     -- the row k is worse than a, or not free
-    stays : {a : ℕ} → a < k → isFree f a ≡ true → ((c : ℕ) → c < k → isFree f c ≡ true → rank a ≤ rank c)
-        → ((c : ℕ) → c < a → isFree f c ≡ true → rank a < rank c) → (isFree f k ≡ true → rank a ≤ rank k) → Next (at f a)
+    stays : {a : ℕ} → a < k → freed a ≡ true → ((c : ℕ) → c < k → freed c ≡ true → rank a ≤ rank c)
+        → ((c : ℕ) → c < a → freed c ≡ true → rank a < rank c) → (freed k ≡ true → rank a ≤ rank k) → Next (at f (own a))
     stays {a} l e all first here =
         best {a = a} (omega arith) e
-        (λ c i q. elim (up-to i) [ inl p ↦ subst (λ (j : ℕ). rank a ≤ rank j) (sym p) (here (subst (λ (j : ℕ). isFree f j ≡ true) p q)) | inr i ↦ all c i q ]) first
+        (λ c i q. elim (up-to i) [ inl p ↦ subst (λ (j : ℕ). rank a ≤ rank j) (sym p) (here (subst (λ (j : ℕ). freed j ≡ true) p q)) | inr i ↦ all c i q ]) first
 
-    still-nothing : ((c : ℕ) → c < k → isFree f c ≡ false) → isFree f k ≡ false → Next noRow
-    still-nothing all e = nothing (λ c i. elim (up-to i) [ inl p ↦ subst (λ (j : ℕ). isFree f j ≡ false) (sym p) e | inr i ↦ all c i ])
+    still-nothing : ((c : ℕ) → c < k → freed c ≡ false) → freed k ≡ false → Next noRow
+    still-nothing all e = nothing (λ c i. elim (up-to i) [ inl p ↦ subst (λ (j : ℕ). freed j ≡ false) (sym p) e | inr i ↦ all c i ])
 
-    more : {x : Lowest} → BestBelow f k x → Next (betterIn x (rowAt f k) (ownerAt f k .state) (f .boxes) (f .n) k)
+    more : {x : Lowest} → BestBelow k x → Next (betterIn x (rowAt f (own k)) (ownerAt f (own k) .state) (f .boxes) (f .n) (own k))
     unfolding betterIn
     more (best {a} l e all first) =
-        by-test Next (lowerIn (at f a) (rank k)) _ _
-        (λ t. let lt = lower-means (at f a) (rank k) (omega arith) t in by-test Next (isFree f k) _ _
+        by-test Next (lowerIn (at f (own a)) (rank k)) _ _
+        (λ t. let lt = lower-means (at f (own a)) (rank k) (own-most a (omega arith)) t in by-test Next (freed k) _ _
         (λ u. best {a = k} (omega arith) u
         (λ c i q. elim (up-to i) [ inl p ↦ subst (λ (j : ℕ). rank k ≤ rank j) (sym p) (le-refl (rank k)) | inr i ↦ omega (arith, all c i q) ])
         (λ c i q. omega (arith, all c i q)))
         (λ u. stays l e all first (λ v. clash v u)))
-        (λ t. stays l e all first (λ _. lower-not (at f a) (rank k) (omega arith) t))
+        (λ t. stays l e all first (λ _. lower-not (at f (own a)) (rank k) (own-most a (omega arith)) t))
     more (nothing all) =
         by-test Next (lowerIn noRow (rank k)) _ _
-        (λ _. by-test Next (isFree f k) _ _
+        (λ _. by-test Next (freed k) _ _
         (λ u. best {a = k} (omega arith) u
         (λ c i q. elim (up-to i) [ inl p ↦ subst (λ (j : ℕ). rank k ≤ rank j) (sym p) (le-refl (rank k)) | inr i ↦ clash q (all c i) ])
         (λ c i q. clash q (all c i)))
         (λ u. still-nothing all u))
         (λ t. clash (lower-first (rank k)) t)
 
-  best-below : (k : ℕ) → k ≤ 64 → BestBelow f k (freeBelow f k)
+  best-below : (k : ℕ) → k ≤ 64 → BestBelow k (freeBelow f d k)
   unfolding freeBelow
   best-below zero h = nothing (λ c l. absurd (omega arith))
   best-below (suc k) h = more k (omega arith) (best-below k (omega arith))
 
-  pub next-unused : f .used < 64 → nextRow f ≡ f .used
+  pub next-unused : usedOf f d < 64 → nextRow f d ≡ endOf f d
   unfolding nextRow
-  next-unused h = sym (on-true _ (lt-ltb (f .used) 64 h) refl)
+  next-unused h = sym (on-true _ (lt-ltb (usedOf f d) 64 h) refl)
 
-  pub next-full : 64 ≤ f .used → nextRow f ≡ freeBelow f 64 .row
+  pub next-full : 64 ≤ usedOf f d → nextRow f d ≡ freeBelow f d 64 .row
   unfolding nextRow
-  next-full h = sym (on-false _ (le-ltb (f .used) 64 h) refl)
+  next-full h = sym (on-false _ (le-ltb (usedOf f d) 64 h) refl)
 
-  takes-best : {x : Lowest} → 64 ≤ f .used → BestBelow f 64 x → TakesRow f (x .row)
-  takes-best h (best l e all first) = free h l e all first
-  takes-best h (nothing all) = none h all
+  -- a row of the department by its number in it
+  of-own : (P : ℕ → Type 0) → ((k : ℕ) → k < 64 → P (own k)) → (c : ℕ) → rowDepartment c ≡ d → c < 128 → P c
+  of-own P p c e h = subst P (sym (row-number d c e)) (p (c - firstRow d) (omega (arith, row-least d c e, row-most d c e h)))
 
-  pub takes-row : TakesRow f (nextRow f)
-  takes-row = elim (decLt (f .used) 64) [
-    | yes h ↦ subst (TakesRow f) (sym (next-unused h)) (unused h)
-    | no h ↦ subst (TakesRow f) (sym (next-full (omega arith))) (takes-best (omega arith) (best-below 64 (omega arith)))
+  takes-best : {x : Lowest} → 64 ≤ usedOf f d → BestBelow 64 x → TakesRow f d (x .row)
+  takes-best h (best {a} l e all first) =
+      free h (row-own d a l) (own-most a l) e (of-own (λ c. isFree f c ≡ true → rank a ≤ rowAt f c .rank) all)
+      (λ c q i. of-own (λ c. c < own a → isFree f c ≡ true → rank a < rowAt f c .rank) (λ k _ i. first k (omega arith)) c q (omega (arith, own-most a l)) i)
+  takes-best h (nothing all) = none h (of-own (λ c. isFree f c ≡ false) all)
+
+  pub takes-row : TakesRow f d (nextRow f d)
+  takes-row = elim (decLt (usedOf f d) 64) [
+    | yes h ↦ subst (TakesRow f d) (sym (next-unused h)) (unused h)
+    | no h ↦ subst (TakesRow f d) (sym (next-full (omega arith))) (takes-best (omega arith) (best-below 64 (omega arith)))
   ]
 
-  -- the row taken is in use once it was begun, and every other row in use then was in use before
-  taken-in : {x : ℕ} → TakesRow f x → x < 64 → x < usedAfter (f .used)
-  taken-in (unused h) l = omega (arith, used-more (f .used) h)
-  taken-in (free h _ _ _ _) l = omega (arith, used-full (f .used) h)
+  -- the row taken is one of the department, in use once it was begun, and every other row in use then was in use before
+  taken-own : {x : ℕ} → TakesRow f d x → x < 128 → rowDepartment x ≡ d
+  taken-own (unused h) l = row-own d (usedOf f d) h
+  taken-own (free h q _ _ _ _) l = q
+  taken-own (none _ _) l = absurd (omega arith)
+
+  taken-in : {x : ℕ} → TakesRow f d x → x < 128 → x < firstRow d + usedAfter (usedOf f d)
+  taken-in (unused h) l = omega (arith, used-more (usedOf f d) h)
+  taken-in (free h q i _ _ _) l = omega (arith, used-full (usedOf f d) h, row-most d _ q i)
   taken-in (none _ _) l = absurd (omega arith)
 
-  below-next : f .used < 64 → (j : ℕ) → j < usedAfter (f .used) → j < suc (f .used)
-  below-next h j l = omega (arith, used-more (f .used) h)
+  below-next : usedOf f d < 64 → (j : ℕ) → j < firstRow d + usedAfter (usedOf f d) → j < suc (endOf f d)
+  below-next h j l = omega (arith, used-more (usedOf f d) h)
 
-  taken-other : {x : ℕ} → TakesRow f x → (j : ℕ) → j < usedAfter (f .used) → ¬ (j ≡ x) → j < f .used
+  taken-other : {x : ℕ} → TakesRow f d x → (j : ℕ) → j < firstRow d + usedAfter (usedOf f d) → ¬ (j ≡ x) → j < endOf f d
   taken-other (unused h) j l n = elim (up-to (below-next h j l)) [ inl q ↦ absurd (n q) | inr q ↦ q ]
-  taken-other (free h _ _ _ _) j l n = omega (arith, used-full (f .used) h)
-  taken-other (none h _) j l n = omega (arith, used-full (f .used) h)
+  taken-other (free h _ _ _ _ _) j l n = omega (arith, used-full (usedOf f d) h)
+  taken-other (none h _) j l n = omega (arith, used-full (usedOf f d) h)
 
   -- one that was in use is free
-  taken-free : {x : ℕ} → TakesRow f x → x < f .used → x < 64 → isFree f x ≡ true
+  taken-free : {x : ℕ} → TakesRow f d x → x < endOf f d → x < 128 → isFree f x ≡ true
   taken-free (unused h) l i = absurd (omega arith)
-  taken-free (free h i e _ _) l j = e
+  taken-free (free h _ _ e _ _) l j = e
   taken-free (none h _) l i = absurd (omega arith)
 
-  taken-most : {x : ℕ} → TakesRow f x → x ≤ 64
-  taken-most (unused h) = omega arith
-  taken-most (free h i e _ _) = omega arith
+  taken-most : {x : ℕ} → TakesRow f d x → x ≤ 128
+  taken-most (unused h) = omega (arith, first-most d)
+  taken-most (free h _ i _ _ _) = omega arith
   taken-most (none h _) = omega arith
 
-  pub next-most : nextRow f ≤ 64
+  pub next-most : nextRow f d ≤ 128
   next-most = taken-most takes-row
 
-  pub next-in : nextRow f < 64 → nextRow f < usedAfter (f .used)
+  pub next-own : nextRow f d < 128 → rowDepartment (nextRow f d) ≡ d
+  next-own = taken-own takes-row
+
+  pub next-in : nextRow f d < 128 → nextRow f d < firstRow d + usedAfter (usedOf f d)
   next-in = taken-in takes-row
 
-  pub next-other : (j : ℕ) → j < usedAfter (f .used) → ¬ (j ≡ nextRow f) → j < f .used
+  pub next-other : (j : ℕ) → j < firstRow d + usedAfter (usedOf f d) → ¬ (j ≡ nextRow f d) → j < endOf f d
   next-other = taken-other takes-row
 
-  pub next-free : nextRow f < f .used → nextRow f < 64 → isFree f (nextRow f) ≡ true
+  pub next-free : nextRow f d < endOf f d → nextRow f d < 128 → isFree f (nextRow f d) ≡ true
   next-free = taken-free takes-row
 
-  pub next-over : nextRow f < f .used → nextRow f < 64 → isActive (ownerAt f (nextRow f) .state) (nextRow f) ≡ false
-  next-over l i = free-means f (nextRow f) (next-free l i) .over
+  pub next-over : nextRow f d < endOf f d → nextRow f d < 128 → isActive (ownerAt f (nextRow f d) .state) (nextRow f d) ≡ false
+  next-over l i = free-means f (nextRow f d) (next-free l i) .over
 
-  -- where a row in use is free there is one to take
-  taken-some : {x : ℕ} → TakesRow f x → f .used ≤ 64 → (a : ℕ) → a < f .used → isFree f a ≡ true → x < 64
-  taken-some (unused h) u a l e = h
-  taken-some (free h i _ _ _) u a l e = i
-  taken-some (none h all) u a l e = clash e (all a (omega arith))
+  -- where a row in use of the department is free there is one to take
+  taken-some : {x : ℕ} → TakesRow f d x → usedOf f d ≤ 64 → (a : ℕ) → rowDepartment a ≡ d → a < endOf f d → isFree f a ≡ true → x < 128
+  taken-some (unused h) u a q l e = omega (arith, first-most d)
+  taken-some (free h _ i _ _ _) u a q l e = i
+  taken-some (none h all) u a q l e = clash e (all a q (omega (arith, first-most d)))
 
-  pub next-some : f .used ≤ 64 → (a : ℕ) → a < f .used → isFree f a ≡ true → nextRow f < 64
+  pub next-some : usedOf f d ≤ 64 → (a : ℕ) → rowDepartment a ≡ d → a < endOf f d → isFree f a ≡ true → nextRow f d < 128
   next-some = taken-some takes-row

@@ -11,7 +11,9 @@ use borrow.Author.Tests.{leb-false, eqb-true, eqb-false}
 use Rattle.base.specs.Choice.{if_then_else_}
 use Rattle.base.proofs.Cases.{clash}
 use Rattle.base.proofs.Choices.{by-test}
-use Rattle.register.specs.Register.{box0}
+use Rattle.register.specs.Register.{box0, boxWith}
+use Rattle.register.specs.declared.Department.{Department}
+use Rattle.register.proofs.DepartmentLaws.{box-same, stop-box}
 use Rattle.requests.specs.Requests.{verdictOf}
 use Rattle.requests.specs.declared.Phase.{Phase}
 use Rattle.requests.specs.declared.Phase.the-variants.{Read, Write}
@@ -22,26 +24,31 @@ use Rattle.commands.specs.declared.Command.{Command}
 use Rattle.commands.specs.declared.Command.the-variants.{Begin, Serve, Deliver, Stop, Leave, Malformed}
 use Rattle.commands.specs.declared.Outcome.the-variants.{Refused}
 use Rattle.attempts.specs.Stations.{station0}
-use Rattle.attempts.specs.Rows.{row0, requestsHeard, rowHeard}
+use Rattle.attempts.specs.Rows.{row0, rowDepartment, firstRow, requestsHeard, rowHeard}
 use Rattle.attempts.specs.declared.Row.{Row}
-use Rattle.parts.specs.Parts.{placeIn, attemptIn, boxIn, stationIn, beginIn, serveIn, deliverIn, stopIn, leaveIn, refusalIn, begun, served, receivedOnly, readEnded, heardBy, delivered, turnedBack, effectIn, changeIn}
+use Rattle.parts.specs.Parts.{placeIn, attemptIn, boxIn, stationIn, departmentIn, beginIn, serveIn, deliverIn, stopIn, leaveIn, refusalIn, begun, served, receivedOnly, readEnded, heardBy, delivered, turnedBack, effectIn, changeIn}
 use Rattle.parts.specs.declared.Parts.{Parts}
 use Rattle.parts.specs.declared.Changed.{Changed}
 use Rattle.parts.proofs.PlaceLaws.{place-same}
-use Rattle.floor.specs.Floors.{boxAt, stationAt, rowAt}
-use Rattle.floor.specs.Free.{nextRow, takenBy}
+use Rattle.floor.specs.Floors.{boxAt, stationAt, rowAt, registerAt, departmentAt, usedOf, highestOf, endOf, InUse, sharesWith}
+use Rattle.floor.specs.Free.{takenBy}
 use Rattle.floor.specs.Refusals.{beginRefusal, serveRefusal, deliverRefusal, stopRefusal, leaveRefusal, refusalOn}
-use Rattle.floor.specs.Effects.{receivedOn, verdictOn, heardOn, deliveredOn, effectOn}
+use Rattle.floor.specs.Effects.{rowTaken, receivedOn, verdictOn, heardOn, deliveredOn, effectOn}
 use Rattle.floor.specs.Step.{applyOf}
 use Rattle.floor.specs.Claims.{Sound}
 use Rattle.floor.specs.declared.Floor.{Floor}
 use Rattle.floor.specs.declared.Stepped.{Stepped}
+use Rattle.floor.proofs.UseLaws.{share-same, in-use-most}
 use Rattle.floor.proofs.RefusalLaws.{begin-means, serve-means, deliver-means, stop-means, leave-means}
 use Rattle.floor.proofs.StepLaws.{apply-refused, apply-accepted}
 
+-- the department that a command belongs to on a floor
+abbrev pub stepDepartment : Floor → Command → Department
+stepDepartment f c = departmentIn (departmentAt f (placeIn 16 (stationIn 0 c))) c
+
 -- the places of the row, the box and the station that a command names on a floor
 abbrev pub rowPlace : Floor → Command → ℕ
-rowPlace f c = placeIn 64 (attemptIn (takenBy f c) c)
+rowPlace f c = placeIn 128 (attemptIn (takenBy f (stepDepartment f c) c) c)
 
 abbrev pub boxPlace : Command → ℕ
 boxPlace c = placeIn 9 (boxIn c)
@@ -49,39 +56,44 @@ boxPlace c = placeIn 9 (boxIn c)
 abbrev pub stationPlace : Floor → Command → ℕ
 stationPlace f c = placeIn 16 (stationIn (rowAt f (rowPlace f c) .station) c)
 
--- what a step looks at, and the floor with these parts replaced: no step looks at or changes another row, box or station
-abbrev pub look : Floor → Command → Parts
-look f c =
+-- the parts of a department at a row, a box and a station, where a begin takes the row `next`
+abbrev pub partsAt : Floor → Department → ℕ → ℕ → ℕ → ℕ → Parts
+partsAt f d next a b s =
     record {
       n = f .n;
       m = f .m;
-      used = f .used;
-      next = takenBy f c;
-      highest = f .highest;
-      row = rowAt f (rowPlace f c);
-      storage = boxAt f (boxPlace c);
-      station = stationAt f (stationPlace f c);
+      first = firstRow d;
+      used = usedOf f d;
+      next = next;
+      highest = highestOf f d;
+      row = rowAt f a;
+      register = registerAt f d b;
+      stopped = boxAt f b .stopped;
+      station = stationAt f s;
     }
 
-abbrev pub put : Floor → Command → Parts → Floor
-put f c p =
+-- the floor once these parts are stored at the places i, b and j: no other row, box or station is changed, and of the other department
+-- nothing
+abbrev pub storedAt : (f : Floor) (d : Department) (i b j : ℕ) (x : Parts) → Floor
+storedAt f d i b j x =
     record {
       n = f .n;
       m = f .m;
-      used = p .used;
-      highest = p .highest;
-      boxes = set (f .boxes) (boxPlace c) (p .storage);
-      stations = set (f .stations) (stationPlace f c) (p .station);
-      rows = set (f .rows) (rowPlace f c) (p .row);
+      shares = sharesWith d f (record { used = x .used; highest = x .highest });
+      boxes = set (f .boxes) b (boxWith d (boxAt f b) (x .register) (x .stopped));
+      stations = set (f .stations) j (x .station);
+      rows = set (f .rows) i (x .row);
     }
+
+-- what a step looks at, and the floor with these parts replaced
+abbrev pub look : Floor → Command → Parts
+look f c = partsAt f (stepDepartment f c) (takenBy f (stepDepartment f c) c) (rowPlace f c) (boxPlace c) (stationPlace f c)
+
+abbrev pub put : Floor → Command → Parts → Floor
+put f c p = storedAt f (stepDepartment f c) (rowPlace f c) (boxPlace c) (stationPlace f c) p
 
 abbrev pub accepted : Floor → Command → Changed → Stepped
 accepted f c y = record { floor = put f c (y .parts); outcome = y .outcome }
-
--- the parts at a row, a box and a station, where a begin takes the row `next`
-abbrev pub partsAt : Floor → ℕ → ℕ → ℕ → ℕ → Parts
-partsAt f next a b s =
-    record { n = f .n; m = f .m; used = f .used; next = next; highest = f .highest; row = rowAt f a; storage = boxAt f b; station = stationAt f s }
 
 -- two choices by one test that agree where it fails
 same-else : {A : Type 0} (t : Bool) (k x y : A) → (t ≡ false → x ≡ y) → (if t then k else x) ≡ (if t then k else y)
@@ -106,24 +118,27 @@ module _ (f : Floor) (z : Sound f) where
   at-box : (b : ℕ) → b < f .n → placeIn 9 b ≡ b
   at-box b h = place-same 9 b (omega (arith, z .box-most))
 
-  at-row : (a : ℕ) → a < f .used → placeIn 64 a ≡ a
-  at-row a h = place-same 64 a (omega (arith, z .rows-most))
+  at-row : (a : ℕ) → InUse f a → placeIn 128 a ≡ a
+  at-row a h = place-same 128 a (in-use-most f z a h)
 
-  at-owner : (a : ℕ) → a < f .used → placeIn 16 (rowAt f a .station) ≡ rowAt f a .station
+  at-owner : (a : ℕ) → InUse f a → placeIn 16 (rowAt f a .station) ≡ rowAt f a .station
   at-owner a h = at-station (rowAt f a .station) (z .stations a h)
 
   -- a step is refused alike
   pub refusal-join : (c : Command) → refusalIn (look f c) c ≡ refusalOn f c
   unfolding beginIn serveIn deliverIn stopIn leaveIn beginRefusal serveRefusal deliverRefusal stopRefusal leaveRefusal
   refusal-join (Begin s round v) = same-else _ _ _ _ (λ h. rw (at-station s (leb-false (f .m) s h)))
-  refusal-join (Serve p a b) = same-past _ _ _ _ _ _ (λ h l. rw (at-row a (leb-false (f .used) a h), at-box b (leb-false (f .n) b l)))
-  refusal-join (Deliver p a b) = same-past _ _ _ _ _ _ (λ h _. rw (at-row a (leb-false (f .used) a h), at-owner a (leb-false (f .used) a h)))
+  refusal-join (Serve p a b) = same-past _ _ _ _ _ _ (λ h l. rw (at-row a (leb-false (endOf f (rowDepartment a)) a h), at-box b (leb-false (f .n) b l)))
+  refusal-join (Deliver p a b) = same-past _ _ _ _ _ _ (λ h _. rw (at-row a (leb-false (endOf f (rowDepartment a)) a h), at-owner a (leb-false (endOf f (rowDepartment a)) a h)))
   refusal-join (Stop b) = same-else _ _ _ _ (λ h. rw (at-box b (leb-false (f .n) b h)))
   refusal-join (Leave s) = same-else _ _ _ _ (λ h. rw (at-station s (leb-false (f .m) s h)))
   refusal-join Malformed = refl
 
   -- and leads to the same floor
-  module _ (a b : ℕ) (h : a < f .used) where
+  module _ (a b : ℕ) (h : InUse f a) where
+    abbrev d : Department
+    d = rowDepartment a
+
     abbrev stores : Phase → Changed → Stepped
     stores p y = accepted f (Deliver p a b) y
 
@@ -131,15 +146,15 @@ module _ (f : Floor) (z : Sound f) where
     heardIn p = rowHeard p (look f (Deliver p a b) .row) b
 
     received : (p : Phase) → stores p (receivedOnly (look f (Deliver p a b)) a (heardIn p)) ≡ receivedOn f p a b
-    received p = rw (at-row a h, at-owner a h, set-getD (f .boxes) _ box0, set-getD (f .stations) _ station0)
+    received p = rw (at-row a h, at-owner a h, share-same d f, box-same d (boxAt f (boxPlace (Deliver p a b))), set-getD (f .boxes) _ box0, set-getD (f .stations) _ station0)
 
     -- what the answers received come to
     heard : (p : Phase) (v : Verdict) → stores p (heardBy (look f (Deliver p a b)) p a (heardIn p) v) ≡ heardOn f p a b v
     unfolding readEnded
     heard p Open = received p
-    heard Read Yes = rw (at-row a h, at-owner a h, set-getD (f .boxes) _ box0)
-    heard Write Yes = rw (at-row a h, at-owner a h, set-getD (f .boxes) _ box0)
-    heard p No = rw (at-row a h, at-owner a h, set-getD (f .boxes) _ box0)
+    heard Read Yes = rw (at-row a h, at-owner a h, share-same d f, box-same d (boxAt f (boxPlace (Deliver Read a b))), set-getD (f .boxes) _ box0)
+    heard Write Yes = rw (at-row a h, at-owner a h, share-same d f, box-same d (boxAt f (boxPlace (Deliver Write a b))), set-getD (f .boxes) _ box0)
+    heard p No = rw (at-row a h, at-owner a h, share-same d f, box-same d (boxAt f (boxPlace (Deliver p a b))), set-getD (f .boxes) _ box0)
 
     abbrev verdictIn : Phase → Verdict
     verdictIn p = verdictOf p (requestsHeard p (look f (Deliver p a b) .row) b) (f .n)
@@ -156,11 +171,14 @@ module _ (f : Floor) (z : Sound f) where
   unfolding begun served
   effect-join (Begin s round v) e =
       let d = begin-means f s round v e in
-      rw (at-station s (d .station), place-same 64 (nextRow f) (d .row), set-getD (f .boxes) _ box0)
-  effect-join (Serve p a b) e = let d = serve-means f p a b e in rw (at-box b (d .box), at-row a (d .used), set-getD (f .stations) _ station0)
+      rw (at-station s (d .station), place-same 128 (rowTaken f s) (d .row), box-same (departmentAt f s) (boxAt f (placeIn 9 0)), set-getD (f .boxes) _ box0)
+  effect-join (Serve p a b) e = let d = serve-means f p a b e in rw (at-box b (d .box), at-row a (d .used), share-same (rowDepartment a) f, set-getD (f .stations) _ station0)
   effect-join (Deliver p a b) e = deliver-join a b (deliver-means f p a b e .used) p
-  effect-join (Stop b) e = rw (at-box b (stop-means f b e .box), set-getD (f .stations) _ station0, set-getD (f .rows) _ row0)
-  effect-join (Leave s) e = rw (at-station s (leave-means f s e .station), set-getD (f .boxes) _ box0, set-getD (f .rows) _ row0)
+  effect-join (Stop b) e =
+      let d = stepDepartment f (Stop b) in
+      rw (at-box b (stop-means f b e .box), share-same d f, stop-box d (boxAt f b), set-getD (f .stations) _ station0, set-getD (f .rows) _ row0)
+  effect-join (Leave s) e =
+      rw (at-station s (leave-means f s e .station), share-same (departmentAt f s) f, box-same (departmentAt f s) (boxAt f (placeIn 9 0)), set-getD (f .boxes) _ box0, set-getD (f .rows) _ row0)
   effect-join Malformed e = absurd (omega (arith, e))
 
   -- the step on the parts says what the step on the floor says, and where it was accepted, the parts stored make its floor

@@ -17,7 +17,7 @@ use Rattle.floor.specs.declared.Stepped.{Stepped}
 use Rattle.commands.specs.declared.Outcome.{Outcome}
 use Rattle.commands.specs.declared.Command.{Command}
 use Rattle.base.proofs.Stores.{set-all}
-use Rattle.floor.specs.Free.{nextRow}
+use Rattle.floor.specs.Effects.{rowTaken}
 use Rattle.floor.proofs.StepCases.{StepCase, turned, began, served, heard, issued, decided, aborted, stopped, left, apply-case}
 
 -- the station s is stored; the others are kept
@@ -54,7 +54,7 @@ box-moves (left z d) j = box-kept
 
 row-moves : {f : Floor} {c : Command} {s : Stepped} → StepCase f c s → (j : ℕ) → RowMove f c j (s .outcome) (rowAt (s .floor) j)
 row-moves (turned k t) j = row-kept
-row-moves {f} (began z d) j = rows-moved f _ _ (nextRow f) _ (row-begins refl (d .station) refl) j
+row-moves {f} (began {s = s} z d) j = rows-moved f _ _ (rowTaken f s) _ (row-begins refl (d .station) refl) j
 row-moves {f} (served {a = a} z d) j = rows-moved f _ _ a _ (row-served refl d) j
 row-moves {f} (heard {a = a} z d q) j = rows-moved f _ _ a _ (row-heard refl d refl) j
 row-moves {f} (issued {a = a} z d r q t) j = rows-moved f _ _ a _ (row-issues refl d r q t refl) j

@@ -7,7 +7,9 @@ use mathlib.Core.Bool.{Bool, true, false}
 use borrow.Author.Tests.{eq-eqb, ne-eqb}
 use Rattle.base.specs.Choice.{if_then_else_}
 use Rattle.base.proofs.Choices.{on-true, on-false, choice-ap}
+use Rattle.base.proofs.Cases.{clash}
 use Rattle.floor.specs.Sound.{soundOf}
+use Rattle.floor.specs.Claims.{Sound}
 use Rattle.requests.specs.declared.Phase.{Phase}
 use Rattle.requests.specs.declared.Phase.the-variants.{Read, Write}
 use Rattle.requests.specs.declared.Verdict.{Verdict}
@@ -98,3 +100,10 @@ refused-number f c e =
     let r = apply-refusal f c e in
     let n : numberOf (applyOf f c .outcome) ≡ r .number = ap (λ (s : Stepped). numberOf (s .outcome)) (r .is) in
     (omega (arith, n, r .cause .least), omega (arith, n, r .cause .most))
+
+-- an accepted step on a sound floor has no refusal
+pub accepted-refusal : (f : Floor) (c : Command) → Sound f → isRefused (applyOf f c .outcome) ≡ false → refusalOn f c ≡ 0
+accepted-refusal f c z e = elim (ℕ-discrete (refusalOn f c) 0) [
+  | yes q ↦ q
+  | no q ↦ clash (ap (λ (s : Stepped). isRefused (s .outcome)) (apply-refused f c z q)) e
+]

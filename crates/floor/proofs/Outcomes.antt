@@ -9,7 +9,9 @@ use Rattle.floor.specs.Claims.{Meaning, Lengths}
 use Rattle.floor.specs.declared.Floor.{Floor}
 use Rattle.floor.specs.declared.Stepped.{Stepped}
 use Rattle.commands.specs.declared.Command.{Command}
-use Rattle.floor.specs.Free.{nextRow}
+use Rattle.floor.specs.Floors.{departmentAt}
+use Rattle.floor.specs.Effects.{rowTaken, shareAfter}
+use Rattle.floor.proofs.UseLaws.{share-own}
 use Rattle.floor.proofs.StepCases.{StepCase, turned, began, served, heard, issued, decided, aborted, stopped, left, apply-case}
 use Rattle.floor.proofs.Keeps.{row-stored, station-stored, owner-stored, box-stored, used-stored}
 
@@ -22,9 +24,9 @@ meaning {f} y (began {s = s} {round = r} {v = v} z d) = record {
   command = refl;
   may = d;
   next = refl;
-  row = row-stored f y z (nextRow f) _ (d .row);
+  row = row-stored f y z (rowTaken f s) _ (d .row);
   beginning = station-stored f y z s _ (d .station);
-  highest = refl;
+  share = share-own (departmentAt f s) f (shareAfter f s r);
 }
 meaning {f} y (served {p = p} {a = a} {b = b} z d) = record {
   phase = p;

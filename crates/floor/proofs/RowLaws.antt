@@ -1,24 +1,22 @@
 -- What a step does to the rows: how many are in use, what stays of an attempt, and that each delivery is counted once.
-use Prim.Native.Nat.{ℕ, _+_, _<_}
-use native.Mathlib.Omega.{arith}
+use Prim.Native.Nat.{ℕ, _+_}
 use native.Mathlib.Decide.{ℕ-discrete}
-use mathlib.Core.Path.{_≡_, refl, sym, ap, _∙_}
+use mathlib.Core.Path.{_≡_, refl, sym, ap, subst, _∙_}
 use mathlib.Core.Logic.{_⊎_, inl, inr}
 use mathlib.Core.Bool.{false}
-use Rattle.base.specs.Choice.{if_then_else_}
-use Rattle.base.proofs.Choices.{by-test}
 use Rattle.base.specs.Mask.{countBelow}
 use Rattle.base.proofs.MaskLaws.{count-more}
-use Rattle.floor.specs.Floors.{rowAt}
-use Rattle.attempts.specs.Rows.{requestsOf, usedAfter}
-use Rattle.attempts.proofs.UsedLaws.{used-least}
+use Rattle.register.specs.declared.Department.{Department}
+use Rattle.register.proofs.DepartmentLaws.{same-or-not}
+use Rattle.floor.specs.Floors.{rowAt, departmentAt, shareOf, InUse}
+use Rattle.attempts.specs.Rows.{requestsOf}
 use Rattle.attempts.specs.Rows as rows
 use Rattle.commands.specs.Outcomes.{isRefused, isBegun}
 use Rattle.commands.specs.Commands.{commandOf}
 use mathlib.Core.List.{List}
 use Rattle.floor.specs.Step.{applyOf, stepOf}
 use Rattle.attempts.specs.declared.Row.{Row}
-use Rattle.floor.specs.Free.{nextRow}
+use Rattle.floor.specs.Effects.{rowTaken, shareAfter, afterBegin}
 use Rattle.floor.specs.Claims.{SameAttempt, RaisesNow, CanDeliver, RowMove, row-kept, row-begins, row-served, row-heard, row-issues, Lengths}
 use Rattle.floor.specs.declared.Floor.{Floor}
 use Rattle.floor.specs.declared.Stepped.{Stepped}
@@ -32,58 +30,67 @@ use Rattle.requests.specs.declared.Requests.{Requests}
 use Rattle.base.proofs.Cases.{clash}
 use Rattle.requests.proofs.Standings.{arrives-means}
 use Rattle.floor.proofs.StepCases.{StepCase, turned, began, served, heard, issued, decided, aborted, stopped, left, apply-case}
-use Rattle.floor.proofs.FreeLaws.{next-other}
+use Rattle.floor.proofs.UseLaws.{share-own, share-other}
 use Rattle.floor.proofs.Moves.{apply-row}
-use Rattle.floor.proofs.Keeps.{used-stored}
+use Rattle.floor.proofs.Keeps.{begun-use, use-begun, taken-use, used-stored}
 
-used-rises : {f : Floor} {c : Command} {s : Stepped} → StepCase f c s → s .floor .used ≡ (if isBegun (s .outcome) then usedAfter (f .used) else f .used)
-unfolding if_then_else_
-used-rises (turned k t) = refl
-used-rises (began z d) = refl
-used-rises (served z d) = refl
-used-rises (heard z d q) = refl
-used-rises (issued z d r q t) = refl
-used-rises (decided z d r q t) = refl
-used-rises (aborted z d r q t) = refl
-used-rises (stopped z d) = refl
-used-rises (left z d) = refl
+raised : {f : Floor} {c : Command} {s : Stepped} → StepCase f c s → (d : Department) → (shareOf d (s .floor) ≡ shareOf d f) ⊎ RaisesNow f d c (s .outcome) (shareOf d (s .floor))
+raised (turned k t) e = inl refl
+raised {f} (began {s = s} {round = r} {v = v} z d) e = elim (same-or-not e (departmentAt f s)) [
+  | inl q ↦ inr (record {
+    station = s;
+    round = r;
+    offer = v;
+    command = refl;
+    outcome = refl;
+    of = sym q;
+    share = ap (λ (x : Department). shareOf x (afterBegin f s r v)) q ∙ share-own (departmentAt f s) f (shareAfter f s r);
+  })
+  | inr n ↦ inl (share-other (departmentAt f s) e f (shareAfter f s r) n)
+]
+raised (served z d) e = inl refl
+raised (heard z d q) e = inl refl
+raised (issued z d r q t) e = inl refl
+raised (decided z d r q t) e = inl refl
+raised (aborted z d r q t) e = inl refl
+raised (stopped z d) e = inl refl
+raised (left z d) e = inl refl
 
-begun-next : {f : Floor} {c : Command} {s : Stepped} (a : ℕ) → StepCase f c s → s .outcome ≡ Begun a → a ≡ nextRow f
-begun-next a (turned k t) e = cc
-begun-next a (began z d) e = cc
-begun-next a (served z d) e = cc
-begun-next a (heard z d q) e = cc
-begun-next a (issued z d r q t) e = cc
-begun-next a (decided z d r q t) e = cc
-begun-next a (aborted z d r q t) e = cc
-begun-next a (stopped z d) e = cc
-begun-next a (left z d) e = cc
-
--- the rows in use are one more, up to 64, exactly where the step says begun
-pub apply-used : (f : Floor) (c : Command) → applyOf f c .floor .used ≡ (if isBegun (applyOf f c .outcome) then usedAfter (f .used) else f .used)
-apply-used f c = used-rises (apply-case f c)
-
-pub apply-begun : (f : Floor) (c : Command) (a : ℕ) → applyOf f c .outcome ≡ Begun a → a ≡ nextRow f
-apply-begun f c a = begun-next a (apply-case f c)
-
-raised : {f : Floor} {c : Command} {s : Stepped} → StepCase f c s → (s .floor .highest ≡ f .highest) ⊎ RaisesNow f c (s .outcome) (s .floor .highest)
-raised (turned k t) = inl refl
-raised (began {s = s} {round = r} {v = v} z d) = inr (record { station = s; round = r; offer = v; command = refl; outcome = refl; highest = refl })
-raised (served z d) = inl refl
-raised (heard z d q) = inl refl
-raised (issued z d r q t) = inl refl
-raised (decided z d r q t) = inl refl
-raised (aborted z d r q t) = inl refl
-raised (stopped z d) = inl refl
-raised (left z d) = inl refl
-
--- the highest rank begun changes at a begin only
-pub apply-highest : (f : Floor) (c : Command) → (applyOf f c .floor .highest ≡ f .highest) ⊎ RaisesNow f c (applyOf f c .outcome) (applyOf f c .floor .highest)
-apply-highest f c = raised (apply-case f c)
+-- what a department uses, and its highest rank begun, change at a begin of one of its stations only
+pub apply-share : (f : Floor) (c : Command) (d : Department) → (shareOf d (applyOf f c .floor) ≡ shareOf d f) ⊎ RaisesNow f d c (applyOf f c .outcome) (shareOf d (applyOf f c .floor))
+apply-share f c = raised (apply-case f c)
 
 -- a row in use stays in use
-pub used-stays : (f : Floor) (c : Command) (a : ℕ) → a < f .used → a < applyOf f c .floor .used
-used-stays f c a h = rw (apply-used f c) (by-test (λ (k : ℕ). a < k) _ _ _ (λ _. omega (arith, used-least (f .used))) (λ _. h))
+still-used : {f : Floor} {c : Command} {s : Stepped} → StepCase f c s → (a : ℕ) → InUse f a → InUse (s .floor) a
+still-used (turned k t) a h = h
+still-used {f} (began {s = s} {round = r} {v = v} z d) a h = use-begun f s r v a h
+still-used (served z d) a h = h
+still-used (heard z d q) a h = h
+still-used (issued z d r q t) a h = h
+still-used (decided z d r q t) a h = h
+still-used (aborted z d r q t) a h = h
+still-used (stopped z d) a h = h
+still-used (left z d) a h = h
+
+pub used-stays : (f : Floor) (c : Command) (a : ℕ) → InUse f a → InUse (applyOf f c .floor) a
+used-stays f c = still-used (apply-case f c)
+
+-- the row begun is in use
+begun-in-use : {f : Floor} {c : Command} {s : Stepped} → StepCase f c s → (a : ℕ) → s .outcome ≡ Begun a → InUse (s .floor) a
+begun-in-use (turned k t) a e = clash (ap isBegun e) refl
+begun-in-use {f} (began {s = s} {round = r} {v = v} z d) a e =
+    let q : rowTaken f s ≡ a = cc in
+    subst (InUse (afterBegin f s r v)) q (taken-use f s r v (d .row))
+begun-in-use (served z d) a e = clash (ap isBegun e) refl
+begun-in-use (heard z d q) a e = clash (ap isBegun e) refl
+begun-in-use (issued z d r q t) a e = clash (ap isBegun e) refl
+begun-in-use (decided z d r q t) a e = clash (ap isBegun e) refl
+begun-in-use (aborted z d r q t) a e = clash (ap isBegun e) refl
+begun-in-use (stopped z d) a e = clash (ap isBegun e) refl
+begun-in-use (left z d) a e = clash (ap isBegun e) refl
+
+pub apply-begun-use : (f : Floor) (c : Command) (a : ℕ) → applyOf f c .outcome ≡ Begun a → InUse (applyOf f c .floor) a
+apply-begun-use f c = begun-in-use (apply-case f c)
 
 -- only a begin says begun
 begin-said : {f : Floor} {c : Command} {s : Stepped} → StepCase f c s → ((t round v : ℕ) → ¬ (c ≡ Begin t round v)) → isBegun (s .outcome) ≡ false
@@ -101,11 +108,11 @@ pub apply-not-begun : (f : Floor) (c : Command) → ((t round v : ℕ) → ¬ (c
 apply-not-begun f c n a e = clash (ap isBegun e) (begin-said (apply-case f c) n)
 
 -- a row in use after a step was begun by it, or was in use before and is the same attempt's
-in-use : {f : Floor} {c : Command} {s : Stepped} → StepCase f c s → (a : ℕ) → a < s .floor .used → (s .outcome ≡ Begun a) ⊎ ((a < f .used) × (¬ (s .outcome ≡ Begun a)))
+in-use : {f : Floor} {c : Command} {s : Stepped} → StepCase f c s → (a : ℕ) → InUse (s .floor) a → (s .outcome ≡ Begun a) ⊎ (InUse f a × (¬ (s .outcome ≡ Begun a)))
 in-use (turned k t) a h = inr (h, λ e. clash (ap isBegun e) refl)
-in-use {f} (began z d) a h = elim (ℕ-discrete a (nextRow f)) [
+in-use {f} (began {s = s} {round = r} {v = v} z d) a h = elim (ℕ-discrete a (rowTaken f s)) [
   | yes q ↦ inl (ap Begun (sym q))
-  | no q ↦ inr (next-other f a h q, λ e. q (cc))
+  | no q ↦ inr (begun-use f s r v a h q, λ e. q (cc))
 ]
 in-use (served z d) a h = inr (h, λ e. clash (ap isBegun e) refl)
 in-use (heard z d q) a h = inr (h, λ e. clash (ap isBegun e) refl)
@@ -115,7 +122,7 @@ in-use (aborted z d r q t) a h = inr (h, λ e. clash (ap isBegun e) refl)
 in-use (stopped z d) a h = inr (h, λ e. clash (ap isBegun e) refl)
 in-use (left z d) a h = inr (h, λ e. clash (ap isBegun e) refl)
 
-pub apply-in-use : (f : Floor) (c : Command) (a : ℕ) → a < applyOf f c .floor .used → (applyOf f c .outcome ≡ Begun a) ⊎ ((a < f .used) × (¬ (applyOf f c .outcome ≡ Begun a)))
+pub apply-in-use : (f : Floor) (c : Command) (a : ℕ) → InUse (applyOf f c .floor) a → (applyOf f c .outcome ≡ Begun a) ⊎ (InUse f a × (¬ (applyOf f c .outcome ≡ Begun a)))
 apply-in-use f c = in-use (apply-case f c)
 
 module _ {f : Floor} {c : Command} {j : ℕ} where

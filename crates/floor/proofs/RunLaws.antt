@@ -15,7 +15,14 @@ use Rattle.commands.specs.Commands.{commandOf}
 use Rattle.commands.specs.Outcomes.{isRefused, isEnd}
 use Rattle.commands.specs.declared.Command.{Command}
 use Rattle.commands.specs.declared.Outcome.{Outcome}
-use Rattle.attempts.specs.Rows.{row0}
+use Rattle.register.specs.Register.{boxWith}
+use Rattle.register.specs.declared.Department.{Department}
+use Rattle.register.specs.declared.Register.{Register}
+use Rattle.register.specs.declared.StorageBox.{StorageBox}
+use Rattle.attempts.specs.Rows.{row0, firstRow}
+use Rattle.floor.specs.Floors.{boxAt, stationAt, rowAt, registerAt, shareOf, sharesWith}
+use Rattle.floor.specs.declared.Share.{Share}
+use Rattle.floor.specs.declared.Shares.{Shares}
 use Rattle.parts.specs.Parts.{placeIn, attemptIn, boxIn, stationIn, changeIn}
 use Rattle.parts.specs.declared.Parts.{Parts}
 use Rattle.parts.specs.declared.Changed.{Changed}
@@ -27,7 +34,7 @@ use Rattle.floor.specs.declared.Floor.{Floor}
 use Rattle.floor.specs.declared.Until.{Until}
 use Rattle.floor.specs.declared.Until.the-variants.{Refusal, End}
 use Rattle.floor.specs.declared.Ran.{Ran}
-use Rattle.floor.proofs.Joins.{partsAt, rowPlace, boxPlace, stationPlace, look, put, Joined, change-join}
+use Rattle.floor.proofs.Joins.{stepDepartment, partsAt, storedAt, rowPlace, boxPlace, stationPlace, look, put, Joined, change-join}
 use Rattle.floor.proofs.Keeps.{refused-same, apply-keeps}
 
 -- a run ends behind a refused step
@@ -82,46 +89,60 @@ module _ (until : Until) (k : ℕ) (f : Floor) (c : Command) where
   run-goes-on zero l at e = clash (sym (on-true (stopsAt until (applyOf f c .outcome)) (le-leb 0 0 (omega arith)) refl)) e
   run-goes-on (suc left) l at e = let one : suc left - 1 ≡ left = omega arith in rw one (on-false _ (sym (some-left left _) ∙ e) refl)
 
--- the floor once the loop has stored parts at the places i, b and j
-abbrev pub storedAt : (f : Floor) (i b j : ℕ) (x : Parts) → Floor
-storedAt f i b j x =
+-- what the loop gathers, from the department's first row, its share and its record of the box
+pub gathered-at : (f : Floor) (d : Department) (next i b j first : ℕ) (share : Share) (register : Register) → first ≡ firstRow d → share ≡ shareOf d f → register ≡ registerAt f d b
+    → record {
+      n = f .n;
+      m = f .m;
+      first = first;
+      used = share .used;
+      next = next;
+      highest = share .highest;
+      row = rowAt f i;
+      register = register;
+      stopped = boxAt f b .stopped;
+      station = stationAt f j;
+    } ≡ partsAt f d next i b j
+gathered-at f d next i b j first share register e₁ e₂ e₃ = rw (e₁, e₂, e₃) refl
+
+-- and the floor once it has stored the box and the shares that it made
+abbrev pub leftAt : (f : Floor) (i b j : ℕ) (storage : StorageBox) (shares : Shares) (x : Parts) → Floor
+leftAt f i b j storage shares x =
     record {
       n = f .n;
       m = f .m;
-      used = x .used;
-      highest = x .highest;
-      boxes = set (f .boxes) b (x .storage);
+      shares = shares;
+      boxes = set (f .boxes) b storage;
       stations = set (f .stations) j (x .station);
       rows = set (f .rows) i (x .row);
     }
 
--- What one turn of the loop did: on the sound floor f, for the command c, which takes the row `next`, it read the places i, b and j, and
--- made y of what stands there.
-pub record Turn (f : Floor) (c : Command) (next i b j : ℕ) (y : Changed) : Type 0 where
+-- What one turn of the loop did: on the sound floor f, for the command c, which belongs to the department d and takes the row `next`, it read
+-- the places i, b and j, and made y of what stands there.
+pub record Turn (f : Floor) (c : Command) (d : Department) (next i b j : ℕ) (y : Changed) : Type 0 where
   pub sound : Sound f
-  pub taken : next ≡ takenBy f c
-  pub row : i ≡ placeIn 64 (attemptIn next c)
+  pub department : d ≡ stepDepartment f c
+  pub taken : next ≡ takenBy f d c
+  pub row : i ≡ placeIn 128 (attemptIn next c)
   pub storage : b ≡ placeIn 9 (boxIn c)
   pub station : j ≡ placeIn 16 (stationIn (getD (f .rows) i row0 .station) c)
-  pub change : y ≡ changeIn (partsAt f next i b j) c
+  pub change : y ≡ changeIn (partsAt f d next i b j) c
 
-module _ {f : Floor} {c : Command} {next i b j : ℕ} {y : Changed} (t : Turn f c next i b j y) where
+module _ {f : Floor} {c : Command} {d : Department} {next i b j : ℕ} {y : Changed} (t : Turn f c d next i b j y) where
+  next-named : next ≡ takenBy f (stepDepartment f c) c
+  next-named = t .taken ∙ ap (λ (x : Department). takenBy f x c) (t .department)
+
   row-named : i ≡ rowPlace f c
-  row-named = t .row ∙ ap (λ (x : ℕ). placeIn 64 (attemptIn x c)) (t .taken)
+  row-named = t .row ∙ ap (λ (x : ℕ). placeIn 128 (attemptIn x c)) next-named
 
   station-named : j ≡ stationPlace f c
   station-named = t .station ∙ ap (λ (x : ℕ). placeIn 16 (stationIn (getD (f .rows) x row0 .station) c)) row-named
 
-  looked : partsAt f next i b j ≡ look f c
-  looked =
-      ap (λ (x : ℕ). partsAt f x i b j) (t .taken) ∙ ap (λ (x : ℕ). partsAt f (takenBy f c) x b j) row-named
-      ∙ ap (λ (x : ℕ). partsAt f (takenBy f c) (rowPlace f c) x j) (t .storage)
-      ∙ ap (λ (x : ℕ). partsAt f (takenBy f c) (rowPlace f c) (boxPlace c) x) station-named
+  looked : partsAt f d next i b j ≡ look f c
+  looked = rw (station-named, row-named, next-named, t .storage, t .department) refl
 
-  stored : (x : Parts) → storedAt f i b j x ≡ put f c x
-  stored x =
-      ap (λ (p : ℕ). storedAt f p b j x) row-named ∙ ap (λ (p : ℕ). storedAt f (rowPlace f c) p j x) (t .storage)
-      ∙ ap (λ (p : ℕ). storedAt f (rowPlace f c) (boxPlace c) p x) station-named
+  stored : (x : Parts) → storedAt f d i b j x ≡ put f c x
+  stored x = rw (station-named, row-named, t .storage, t .department) refl
 
   joined : Joined f (t .sound) c y
   joined = subst (Joined f (t .sound) c) (sym (t .change ∙ ap (λ (x : Parts). changeIn x c) looked)) (change-join f (t .sound) c)
@@ -138,12 +159,15 @@ module _ {f : Floor} {c : Command} {next i b j : ℕ} {y : Changed} (t : Turn f 
   turn-refused until k rs e =
       ap (λ (o : Outcome). record { floor = f; accepted = k; outcome = o }) turn-says ∙ run-refused until k f c rs (said-same e)
 
-  -- it was accepted; k steps were before it, and count - k records of the bytes l are left
-  module _ (e : isRefused (y .outcome) ≡ false) where
-    turn-leaves : storedAt f i b j (y .parts) ≡ applyOf f c .floor
-    turn-leaves = stored (y .parts) ∙ joined .left e
+  -- it was accepted, and the loop stored this box and these shares; k steps were before it, and count - k records of the bytes l are left
+  module _ (e : isRefused (y .outcome) ≡ false) (storage : StorageBox) (shares : Shares)
+      (eb : storage ≡ boxWith d (boxAt f b) (y .parts .register) (y .parts .stopped))
+      (es : shares ≡ sharesWith d f (record { used = y .parts .used; highest = y .parts .highest })) where
+    turn-leaves : leftAt f i b j storage shares (y .parts) ≡ applyOf f c .floor
+    turn-leaves =
+        ap₂ (λ (x : StorageBox) (z : Shares). leftAt f i b j x z (y .parts)) eb es ∙ stored (y .parts) ∙ joined .left e
 
-    pub turn-sound : Sound (storedAt f i b j (y .parts))
+    pub turn-sound : Sound (leftAt f i b j storage shares (y .parts))
     turn-sound = subst Sound (sym turn-leaves) (apply-keeps f c (t .sound))
 
     module _ (until : Until) (count k : ℕ) where
@@ -151,7 +175,7 @@ module _ {f : Floor} {c : Command} {next i b j : ℕ} {y : Changed} (t : Turn f 
       Over o = if leb (count - k) 0 then true else stopsAt until o
 
       pub turn-over : (l : List ℕ) → Over (y .outcome) ≡ true
-          → record { floor = storedAt f i b j (y .parts); accepted = k + 1; outcome = y .outcome } ≡ runFrom until k f c (recordsFrom (count - k) l (8 * k))
+          → record { floor = leftAt f i b j storage shares (y .parts); accepted = k + 1; outcome = y .outcome } ≡ runFrom until k f c (recordsFrom (count - k) l (8 * k))
       turn-over l q =
           ap₂ (λ (g : Floor) (o : Outcome). record { floor = g; accepted = k + 1; outcome = o }) turn-leaves turn-says
           ∙ run-over until k f c (count - k) l (8 * k) (said-same e) (subst (λ (o : Outcome). Over o ≡ true) turn-says q)
@@ -160,9 +184,9 @@ module _ {f : Floor} {c : Command} {next i b j : ℕ} {y : Changed} (t : Turn f 
       pub turn-left : Over (y .outcome) ≡ false → k < count
       turn-left q = let h = leb-false (count - k) 0 (both-false _ _ q .0) in omega arith
 
-      pub turn-on : (l : List ℕ) → Over (y .outcome) ≡ false → (d : Command) → d ≡ commandOf (recordAt l (8 * k))
-          → runFrom until (k + 1) (storedAt f i b j (y .parts)) d (recordsFrom (count - (k + 1)) l (8 * (k + 1))) ≡ runFrom until k f c (recordsFrom (count - k) l (8 * k))
-      turn-on l q d ed =
+      pub turn-on : (l : List ℕ) → Over (y .outcome) ≡ false → (c₂ : Command) → c₂ ≡ commandOf (recordAt l (8 * k))
+          → runFrom until (k + 1) (leftAt f i b j storage shares (y .parts)) c₂ (recordsFrom (count - (k + 1)) l (8 * (k + 1))) ≡ runFrom until k f c (recordsFrom (count - k) l (8 * k))
+      turn-on l q c₂ ec =
           let fewer : count - (k + 1) ≡ count - k - 1 = omega arith in
           let next : 8 * (k + 1) ≡ 8 * k + 8 = omega arith in
-          rw (fewer, next, turn-leaves, ed) (run-goes-on until k f c (count - k) l (8 * k) (subst (λ (o : Outcome). Over o ≡ false) turn-says q))
+          rw (fewer, next, turn-leaves, ec) (run-goes-on until k f c (count - k) l (8 * k) (subst (λ (o : Outcome). Over o ≡ false) turn-says q))

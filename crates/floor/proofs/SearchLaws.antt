@@ -1,4 +1,4 @@
--- The loop that looks for the row of a begin: what it has found before it looks at the row a.
+-- The loop that looks for the row of a begin: what it has found once k rows of the department are passed.
 use Prim.Native.Nat.{ℕ, _+_, _<_, _≤_}
 use native.Mathlib.Omega.{arith}
 use native.Mathlib.Numerals.{add-one}
@@ -9,56 +9,60 @@ use Rattle.base.proofs.Cases.{by-cases}
 use Rattle.base.proofs.Choices.{on-true, on-false}
 use Rattle.commands.specs.declared.Command.{Command}
 use Rattle.commands.specs.declared.Command.the-variants.{Begin, Serve, Deliver, Stop, Leave, Malformed}
+use Rattle.register.specs.declared.Department.{Department}
+use Rattle.attempts.specs.Rows.{firstRow}
 use Rattle.attempts.specs.declared.State.{State}
 use Rattle.attempts.specs.declared.Row.{Row}
-use Rattle.floor.specs.Floors.{rowAt, ownerAt}
+use Rattle.floor.specs.Floors.{rowAt, ownerAt, usedOf}
 use Rattle.floor.specs.Free.{betterIn, noRow, freeBelow, takenBy, startOf, firstOf}
 use Rattle.floor.specs.declared.Floor.{Floor}
 use Rattle.floor.specs.declared.free.Lowest.{Lowest}
+use Rattle.attempts.proofs.RowDepartments.{first-most}
 use Rattle.floor.proofs.FreeLaws.{next-unused, next-full}
 
--- before the first row, and once the row a was looked at
-pub none-found : (f : Floor) → noRow ≡ freeBelow f 0
-unfolding freeBelow
-none-found f = refl
+module _ (f : Floor) (d : Department) where
+  -- before the first row, and once the row k of the department was looked at
+  pub none-found : noRow ≡ freeBelow f d 0
+  unfolding freeBelow
+  none-found = refl
 
-pub found-more : (f : Floor) (a : ℕ) (x y : Lowest) (w : Row) (state : State) → x ≡ freeBelow f a → w ≡ rowAt f a → state ≡ ownerAt f a .state
-    → y ≡ betterIn x w state (f .boxes) (f .n) a → y ≡ freeBelow f (a + 1)
-unfolding freeBelow
-found-more f a x y w state ex ew es ey = ey ∙ rw (ex, ew, es, add-one) refl
+  pub found-more : (k a : ℕ) (x y : Lowest) (w : Row) (state : State) → a ≡ firstRow d + k → x ≡ freeBelow f d k → w ≡ rowAt f a → state ≡ ownerAt f a .state
+      → y ≡ betterIn x w state (f .boxes) (f .n) a → y ≡ freeBelow f d (k + 1)
+  unfolding freeBelow
+  found-more k a x y w state ea ex ew es ey = ey ∙ rw (ex, ew, es, ea, add-one) refl
 
--- the row is looked for, or it is known and no row is looked at
-pub data Looking (f : Floor) (c : Command) (a : ℕ) (x : Lowest) : Type 0 where
-  seeking : 64 ≤ f .used → takenBy f c ≡ freeBelow f 64 .row → x ≡ freeBelow f a → Looking f c a x
-  known : 64 ≤ a → x .row ≡ takenBy f c → Looking f c a x
+-- the row is looked for, or it is known and no row is looked at; k rows of the department are passed
+pub data Looking (f : Floor) (d : Department) (c : Command) (k : ℕ) (x : Lowest) : Type 0 where
+  seeking : 64 ≤ usedOf f d → takenBy f d c ≡ freeBelow f d 64 .row → x ≡ freeBelow f d k → Looking f d c k x
+  known : 64 ≤ k → x .row ≡ takenBy f d c → Looking f d c k x
 
-first-64 : (x : Lowest) → x .row < 64 → firstOf x ≡ 64
+first-64 : (x : Lowest) → x .row < 128 → firstOf x ≡ 64
 unfolding firstOf
-first-64 x h = sym (on-true _ (lt-ltb (x .row) 64 h) refl)
+first-64 x h = sym (on-true _ (lt-ltb (x .row) 128 h) refl)
 
-first-0 : (x : Lowest) → 64 ≤ x .row → firstOf x ≡ 0
+first-0 : (x : Lowest) → 128 ≤ x .row → firstOf x ≡ 0
 unfolding firstOf
-first-0 x h = sym (on-false _ (le-ltb (x .row) 64 h) refl)
+first-0 x h = sym (on-false _ (le-ltb (x .row) 128 h) refl)
 
-module _ (f : Floor) where
-  none-taken : (c : Command) (x : Lowest) → x ≡ record { row = 0; rank = 0 } → takenBy f c ≡ 0 → Looking f c (firstOf x) x
+module _ (f : Floor) (d : Department) where
+  none-taken : (c : Command) (x : Lowest) → x ≡ record { row = 0; rank = 0 } → takenBy f d c ≡ 0 → Looking f d c (firstOf x) x
   none-taken c x e t = known (omega (arith, first-64 x (omega (arith, ap (λ (y : Lowest). y .row) e)))) (ap (λ (y : Lowest). y .row) e ∙ sym t)
 
-  begin-starts : (s round v : ℕ) (x : Lowest) → x ≡ startOf (f .used) (Begin s round v) → Looking f (Begin s round v) (firstOf x) x
+  begin-starts : (s round v : ℕ) (x : Lowest) → x ≡ startOf (firstRow d) (usedOf f d) (Begin s round v) → Looking f d (Begin s round v) (firstOf x) x
   unfolding freeBelow
   begin-starts s round v x e =
-      by-cases (ltb (f .used) 64)
+      by-cases (ltb (usedOf f d) 64)
       (λ t.
-      let h = ltb-true (f .used) 64 t in
+      let h = ltb-true (usedOf f d) 64 t in
       let q = e ∙ sym (on-true noRow t refl) in
       let r = ap (λ (y : Lowest). y .row) q in
-      known (omega (arith, first-64 x (omega (arith, r)))) (r ∙ sym (next-unused f h)))
+      known (omega (arith, first-64 x (omega (arith, r, first-most d)))) (r ∙ sym (next-unused f d h)))
       (λ t.
-      let h = ltb-false (f .used) 64 t in
-      let q = e ∙ sym (on-false (record { row = f .used; rank = 0 }) t refl) in
-      seeking h (next-full f h) (q ∙ sym (ap (freeBelow f) (ap firstOf q ∙ first-0 noRow (omega arith)))))
+      let h = ltb-false (usedOf f d) 64 t in
+      let q = e ∙ sym (on-false (record { row = firstRow d + usedOf f d; rank = 0 }) t refl) in
+      seeking h (next-full f d h) (q ∙ sym (ap (freeBelow f d) (ap firstOf q ∙ first-0 noRow (omega arith)))))
 
-  starts : (c : Command) (x : Lowest) → x ≡ startOf (f .used) c → Looking f c (firstOf x) x
+  starts : (c : Command) (x : Lowest) → x ≡ startOf (firstRow d) (usedOf f d) c → Looking f d c (firstOf x) x
   starts (Begin s round v) x e = begin-starts s round v x e
   starts (Serve p a b) x e = none-taken (Serve p a b) x e refl
   starts (Deliver p a b) x e = none-taken (Deliver p a b) x e refl
@@ -66,25 +70,25 @@ module _ (f : Floor) where
   starts (Leave s) x e = none-taken (Leave s) x e refl
   starts Malformed x e = none-taken Malformed x e refl
 
-  first-most : (x : Lowest) → firstOf x ≤ 64
-  first-most x =
-      by-cases (ltb (x .row) 64) (λ t. omega (arith, first-64 x (ltb-true (x .row) 64 t)))
-      (λ t. omega (arith, first-0 x (ltb-false (x .row) 64 t)))
+  first-least : (x : Lowest) → firstOf x ≤ 64
+  first-least x =
+      by-cases (ltb (x .row) 128) (λ t. omega (arith, first-64 x (ltb-true (x .row) 128 t)))
+      (λ t. omega (arith, first-0 x (ltb-false (x .row) 128 t)))
 
   -- at its start, as it goes on, and at its end
-  pub looking-starts : (c : Command) (a : ℕ) (x : Lowest) → x ≡ startOf (f .used) c → a ≡ firstOf x → (a ≤ 64) × Looking f c a x
-  looking-starts c a x ex ea = rw ea (first-most x, starts c x ex)
+  pub looking-starts : (c : Command) (k : ℕ) (x : Lowest) → x ≡ startOf (firstRow d) (usedOf f d) c → k ≡ firstOf x → (k ≤ 64) × Looking f d c k x
+  looking-starts c k x ex ek = rw ek (first-least x, starts c x ex)
 
-  pub looking-on : (c : Command) (a : ℕ) (x y : Lowest) (w : Row) (state : State) → a < 64 → Looking f c a x → w ≡ rowAt f a → state ≡ ownerAt f a .state
-      → y ≡ betterIn x w state (f .boxes) (f .n) a → Looking f c (a + 1) y
-  looking-on c a x y w state h (seeking u t e) ew es ey = seeking u t (found-more f a x y w state e ew es ey)
-  looking-on c a x y w state h (known l e) ew es ey = absurd (omega arith)
+  pub looking-on : (c : Command) (k a : ℕ) (x y : Lowest) (w : Row) (state : State) → k < 64 → Looking f d c k x → a ≡ firstRow d + k → w ≡ rowAt f a → state ≡ ownerAt f a .state
+      → y ≡ betterIn x w state (f .boxes) (f .n) a → Looking f d c (k + 1) y
+  looking-on c k a x y w state h (seeking u t e) ea ew es ey = seeking u t (found-more f d k a x y w state ea e ew es ey)
+  looking-on c k a x y w state h (known l e) ea ew es ey = absurd (omega arith)
 
-  pub looking-ends : (c : Command) (a : ℕ) (x : Lowest) → a ≤ 64 → 64 ≤ a → Looking f c a x → x .row ≡ takenBy f c
-  looking-ends c a x l h (seeking u t e) = let q : a ≡ 64 = omega arith in ap (λ (y : Lowest). y .row) (e ∙ ap (freeBelow f) q) ∙ sym t
-  looking-ends c a x l h (known _ e) = e
+  pub looking-ends : (c : Command) (k : ℕ) (x : Lowest) → k ≤ 64 → 64 ≤ k → Looking f d c k x → x .row ≡ takenBy f d c
+  looking-ends c k x l h (seeking u t e) = let q : k ≡ 64 = omega arith in ap (λ (y : Lowest). y .row) (e ∙ ap (freeBelow f d) q) ∙ sym t
+  looking-ends c k x l h (known _ e) = e
 
-  -- where a row is looked at, all are in use
-  pub looking-full : (c : Command) (a : ℕ) (x : Lowest) → a < 64 → Looking f c a x → 64 ≤ f .used
-  looking-full c a x h (seeking u t e) = u
-  looking-full c a x h (known l e) = absurd (omega arith)
+  -- where a row is looked at, all of the department are in use
+  pub looking-full : (c : Command) (k : ℕ) (x : Lowest) → k < 64 → Looking f d c k x → 64 ≤ usedOf f d
+  looking-full c k x h (seeking u t e) = u
+  looking-full c k x h (known l e) = absurd (omega arith)

@@ -23,7 +23,8 @@ use Rattle.commands.specs.declared.Outcome.the-variants.{Served, WriteIssued}
 use Rattle.attempts.specs.Rows.{requestsOf, rowServed, rowHeard, issued}
 use Rattle.attempts.specs.Stations.{isReading}
 use Rattle.attempts.specs.declared.Row.{Row}
-use Rattle.floor.specs.Floors.{boxAt, rowAt, ownerAt}
+use Rattle.floor.specs.Floors.{rowAt, ownerAt}
+use Rattle.floor.specs.Effects.{servedBy}
 use Rattle.floor.specs.Step.{applyOf}
 use Rattle.floor.specs.Claims.{Sound, Lengths, RowMove, row-kept, row-begins, row-served, row-heard, row-issues, StandingMove, stands-kept, stands-new, stands-served, stands-received, stands-issued}
 use Rattle.floor.specs.declared.Floor.{Floor}
@@ -46,7 +47,7 @@ same-standing : (g : Stage) (m k b : ℕ) → bit m b ≡ bit k b → standing g
 unfolding standing
 same-standing g m k b e = rw e refl
 
-module _ (f : Floor) (z : Sound f) (y : Lengths f) (a : ℕ) (h : a < 64) (b : ℕ) (l : b < f .n) (c : Command) where
+module _ (f : Floor) (z : Sound f) (y : Lengths f) (a : ℕ) (h : a < 128) (b : ℕ) (l : b < f .n) (c : Command) where
   module _ (p : Phase) where
     abbrev Moves : Outcome → Standing → Standing → Type 0
     Moves o s t = StandingMove f c a p b o s t
@@ -104,10 +105,10 @@ module _ (f : Floor) (z : Sound f) (y : Lengths f) (a : ℕ) (h : a < 64) (b : �
   leads : (p : Phase) {o : Outcome} {w : Row} → RowMove f c a o w → Leads p o w
   leads p row-kept = stands-kept
   leads p (row-begins e s q) = stands-new (sym q)
-  leads p (row-served {p = q} {b = j} e d) = served-leads p q j (boxAt f j .register) e (d .waits)
+  leads p (row-served {p = q} {b = j} e d) = served-leads p q j (servedBy f a j) e (d .waits)
   leads p (row-heard {p = q} {b = j} {o = o} e d k) = heard-leads p q j o k e (d .arrives)
   leads p (row-issues {b = j} {v = v} e d r q t u) = issued-leads p j v e (d .arrives) r
 
-pub apply-standing : (f : Floor) → Sound f → Lengths f → (a : ℕ) → a < 64 → (p : Phase) (b : ℕ) → b < f .n → (c : Command)
+pub apply-standing : (f : Floor) → Sound f → Lengths f → (a : ℕ) → a < 128 → (p : Phase) (b : ℕ) → b < f .n → (c : Command)
     → StandingMove f c a p b (applyOf f c .outcome) (standingOf (requestsOf p (rowAt f a)) b) (standingOf (requestsOf p (rowAt (applyOf f c .floor) a)) b)
 apply-standing f z y a h p b l c = leads f z y a h b l c p (apply-row f c a)

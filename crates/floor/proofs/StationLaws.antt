@@ -4,9 +4,9 @@ use mathlib.Core.Path.{_≡_, refl, ap, _∙_}
 use mathlib.Core.Logic.{_⊎_, inl, inr}
 use mathlib.Core.Bool.{true}
 use borrow.Author.Tests.{eqb-true}
-use Rattle.floor.specs.Floors.{stationAt}
+use Rattle.floor.specs.Floors.{stationAt, departmentAt}
 use Rattle.attempts.specs.Stations.{isGone, isActive}
-use Rattle.floor.specs.Free.{nextRow}
+use Rattle.floor.specs.Effects.{rowTaken}
 use Rattle.floor.specs.Step.{applyOf}
 use Rattle.attempts.specs.declared.State.{State}
 use Rattle.attempts.specs.declared.Station.{Station}
@@ -46,11 +46,19 @@ module _ {f : Floor} {c : Command} {j : ℕ} where
 
   active-by : {o : Outcome} {x : Station} (a : ℕ) → StationMove f c j o x → isActive (x .state) a ≡ true → (isActive (stationAt f j .state) a ≡ true) ⊎ (o ≡ Begun a)
   active-by a station-kept e = inl e
-  active-by a (station-begins q h i l) e = inr (ap Begun (eqb-true (nextRow f) a e))
+  active-by a (station-begins q h i l) e = inr (ap Begun (eqb-true (rowTaken f j) a e))
   active-by a (station-issues {a = k} q u w r) e = inl (ap (λ (p : State). isActive p a) (is-reading (stationAt f j .state) k r) ∙ e)
   active-by a (station-decides q u w r v) e = clash e refl
   active-by a (station-aborts q u w r) e = clash e refl
   active-by a (station-leaves q h) e = clash e refl
+
+  department-kept : {o : Outcome} {x : Station} → StationMove f c j o x → x .department ≡ departmentAt f j
+  department-kept station-kept = refl
+  department-kept (station-begins q h i l) = refl
+  department-kept (station-issues q u w r) = refl
+  department-kept (station-decides q u w r v) = refl
+  department-kept (station-aborts q u w r) = refl
+  department-kept (station-leaves q h) = refl
 
   decided-by : {o : Outcome} {x : Station} → StationMove f c j o x → (x .decided ≡ stationAt f j .decided) ⊎ DecidesNow f c j o (x .decided)
   decided-by station-kept = inl refl
@@ -78,6 +86,10 @@ module _ (f : Floor) (c : Command) (j : ℕ) where
 
   pub gone-from : isGone (after .state) ≡ true → (isGone (before .state) ≡ true) ⊎ (said ≡ Gone j)
   gone-from = gone-by (apply-station f c j)
+
+  -- a station keeps its department
+  pub department-stays : after .department ≡ before .department
+  department-stays = department-kept (apply-station f c j)
 
   -- the last round changes, and rises, at the station's begin only
   pub last-from : (after .last ≡ before .last) ⊎ BeginsNow f c j said (after .last)

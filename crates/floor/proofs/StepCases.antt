@@ -14,9 +14,8 @@ use Rattle.floor.specs.Sound.{soundOf}
 use Rattle.floor.specs.Claims.{Sound, CanBegin, CanServe, CanDeliver, CanStop, CanLeave, TurnedBack}
 use Rattle.commands.specs.Commands.{commandOf}
 use Rattle.attempts.specs.Rows.{revisionOf, requestsHeard}
-use Rattle.floor.specs.Free.{nextRow}
 use Rattle.floor.specs.Refusals.{refusalOn}
-use Rattle.floor.specs.Effects.{heardRow, stepped, afterBegin, afterServe, afterIssue, afterDecision, afterAbort, afterStop, afterLeave, heardOn, deliveredOn, effectOn}
+use Rattle.floor.specs.Effects.{heardRow, stepped, rowTaken, afterBegin, afterServe, afterIssue, afterDecision, afterAbort, afterStop, afterLeave, heardOn, deliveredOn, effectOn}
 use Rattle.commands.specs.Outcomes.{isRefused}
 use Rattle.floor.specs.Step.{refused, playOf, applyOf, stepOf}
 use Rattle.floor.specs.declared.Floor.{Floor}
@@ -35,7 +34,7 @@ use Rattle.floor.proofs.RefusalLaws.{begin-means, serve-means, deliver-
 
 pub data StepCase (f : Floor) : Command → Stepped → Type 0 where
   turned : {c : Command} (k : ℕ) → TurnedBack f c k → StepCase f c (refused f k)
-  began : {s round v : ℕ} → Sound f → CanBegin f s round v → StepCase f (Begin s round v) (stepped (afterBegin f s round v) (said.Begun (nextRow f)))
+  began : {s round v : ℕ} → Sound f → CanBegin f s round v → StepCase f (Begin s round v) (stepped (afterBegin f s round v) (said.Begun (rowTaken f s)))
   served : {p : Phase} {a b : ℕ} → Sound f → CanServe f p a b → StepCase f (Serve p a b) (stepped (afterServe f p a b) (said.Served a))
   heard : {p : Phase} {a b : ℕ} → Sound f → CanDeliver f p a b
       → (isIn p (ownerAt f a .state) a ≡ false) ⊎ (atQuorum (requestsHeard p (rowAt f a) b) (f .n) ≡ false)

@@ -6,33 +6,34 @@ use mathlib.Core.Bool.{true, false}
 use mathlib.Core.List.{List, _∷_}
 use lib.ListN.{length}
 use Rattle.base.specs.Records.{recordsIn}
-use Rattle.base.specs.Choice.{if_then_else_}
 use Rattle.base.specs.Mask.{countBelow}
-use Rattle.register.specs.Register.{withRegister}
+use Rattle.register.specs.Register.{boxWith}
+use Rattle.register.specs.declared.Department.{Department}
 use Rattle.register.specs.declared.Register.{Register}
 use Rattle.register.specs.declared.StorageBox.{StorageBox}
 use Rattle.requests.specs.Requests.{Standing, waiting, onTheWay, received, standingOf, isWaiting, isOnTheWay, atQuorum, allYes}
 use Rattle.requests.specs.declared.Phase.{Phase}
 use Rattle.requests.specs.declared.Phase.the-variants.{Read, Write}
 use Rattle.commands.specs.Commands.{commandOf}
-use Rattle.commands.specs.Outcomes.{numberOf, valueOf, isRefused, isBegun}
+use Rattle.commands.specs.Outcomes.{numberOf, valueOf, isRefused}
 use Rattle.commands.specs.declared.Command.{Command}
 use Rattle.commands.specs.declared.Command.the-variants.{Begin, Serve, Deliver, Stop, Leave}
 use Rattle.commands.specs.declared.Outcome.{Outcome}
 use Rattle.commands.specs.declared.Outcome.the-variants.{Begun, Served, Received, Aborted, WriteIssued, Decided, Stopped, Gone, Refused}
 use Rattle.attempts.specs.Stations.{isGone, isBusy, isReading, isWriting, isActive, isIn, withState}
-use Rattle.attempts.specs.Rows.{requestsOf, newRow, usedAfter, revisionOf, rowServed, registerServed, requestsHeard}
+use Rattle.attempts.specs.Rows.{rowDepartment, requestsOf, newRow, revisionOf, rowServed, registerServed, requestsHeard}
 use Rattle.attempts.specs.Rows as rows
 use Rattle.attempts.specs.declared.State.the-variants as state
 use Rattle.attempts.specs.declared.Station.{Station}
 use Rattle.attempts.specs.declared.Row.{Row}
-use Rattle.floor.specs.Floors.{boxAt, stationAt, rowAt, ownerAt, newFloorOf}
+use Rattle.floor.specs.Floors.{boxAt, stationAt, rowAt, ownerAt, registerAt, departmentAt, shareOf, usedOf, endOf, InUse, newFloorOf}
 use Rattle.floor.specs.Sound.{soundOf}
 use Rattle.floor.specs.Refusals.{refusalOn}
 use Rattle.floor.specs.Free.{isFree, nextRow}
-use Rattle.floor.specs.Effects.{heardRow, beginner, highestAfter, decider}
+use Rattle.floor.specs.Effects.{heardRow, rowTaken, beginner, shareAfter, servedBy, decider, stopped}
 use Rattle.floor.specs.Step.{stepOf, refusalOf, valueSaid}
 use Rattle.floor.specs.Runs.{floorAt, saidAt, stopsAt, runOf, playedOn, playedIn}
+use Rattle.floor.specs.declared.Share.{Share}
 use Rattle.floor.specs.declared.Floor.{Floor}
 use Rattle.floor.specs.declared.Until.{Until}
 use Rattle.floor.specs.declared.Ran.{Ran}
@@ -44,16 +45,16 @@ pub record Sound (f : Floor) : Type 0 where
   pub box-most : f .n ≤ 9
   pub station-least : 1 ≤ f .m
   pub station-most : f .m ≤ 16
-  pub rows-most : f .used ≤ 64
-  pub stations : (a : ℕ) → a < f .used → rowAt f a .station < f .m
+  pub rows-most : (d : Department) → usedOf f d ≤ 64
+  pub stations : (a : ℕ) → InUse f a → rowAt f a .station < f .m
 
 -- The arrays have their lengths: those of the types, which no step changes.
 pub record Lengths (f : Floor) : Type 0 where
   pub boxes : length (f .boxes) ≡ 9
   pub stations : length (f .stations) ≡ 16
-  pub rows : length (f .rows) ≡ 64
-  pub slots : (p : Phase) (a : ℕ) → a < 64 → length (requestsOf p (rowAt f a) .slots) ≡ 9
-  pub answers : (a : ℕ) → a < 64 → length (rowAt f a .answers) ≡ 9
+  pub rows : length (f .rows) ≡ 128
+  pub slots : (p : Phase) (a : ℕ) → a < 128 → length (requestsOf p (rowAt f a) .slots) ≡ 9
+  pub answers : (a : ℕ) → a < 128 → length (rowAt f a .answers) ≡ 9
 
 -- The numbers of boxes and stations are the same.
 pub record SameSizes (f g : Floor) : Type 0 where
@@ -68,17 +69,17 @@ module _ (f : Floor) where
     pub free : isBusy (stationAt f s .state) ≡ false
     pub offer : 0 < v
     pub later : stationAt f s .last < round
-    pub row : nextRow f < 64
+    pub row : rowTaken f s < 128
 
   -- of a read or a write
   pub record CanServe (p : Phase) (a b : ℕ) : Type 0 where
-    pub used : a < f .used
+    pub used : InUse f a
     pub box : b < f .n
     pub answers : boxAt f b .stopped ≡ false
     pub waits : isWaiting (standingOf (requestsOf p (rowAt f a)) b) ≡ true
 
   pub record CanDeliver (p : Phase) (a b : ℕ) : Type 0 where
-    pub used : a < f .used
+    pub used : InUse f a
     pub box : b < f .n
     pub here : isGone (ownerAt f a .state) ≡ false
     pub arrives : isOnTheWay (standingOf (requestsOf p (rowAt f a)) b) ≡ true
@@ -106,18 +107,18 @@ module _ (f : Floor) (c : Command) (g : Floor) where
     pub offer : ℕ
     pub command : c ≡ Begin station round offer
     pub may : CanBegin f station round offer
-    pub next : a ≡ nextRow f
-    pub row : rowAt g (nextRow f) ≡ newRow (f .n) station round offer
+    pub next : a ≡ rowTaken f station
+    pub row : rowAt g (rowTaken f station) ≡ newRow (f .n) station round offer
     pub beginning : stationAt g station ≡ beginner f station round
-    pub highest : g .highest ≡ highestAfter f station round
+    pub share : shareOf (departmentAt f station) g ≡ shareAfter f station round
 
   pub record ServedBy (a : ℕ) : Type 0 where
     pub phase : Phase
     pub box : ℕ
     pub command : c ≡ Serve phase a box
     pub may : CanServe f phase a box
-    pub row : rowAt g a ≡ rowServed phase (rowAt f a) (boxAt f box .register) box
-    pub storage : boxAt g box ≡ withRegister (boxAt f box) (registerServed phase (rowAt f a) (boxAt f box .register))
+    pub row : rowAt g a ≡ rowServed phase (rowAt f a) (servedBy f a box) box
+    pub storage : boxAt g box ≡ boxWith (rowDepartment a) (boxAt f box) (registerServed phase (rowAt f a) (servedBy f a box)) (boxAt f box .stopped)
 
   pub record ReceivedBy (a : ℕ) : Type 0 where
     pub phase : Phase
@@ -169,7 +170,7 @@ module _ (f : Floor) (c : Command) (g : Floor) where
   pub record StoppedBy (b : ℕ) : Type 0 where
     pub command : c ≡ Stop b
     pub may : CanStop f b
-    pub storage : boxAt g b ≡ record { register = boxAt f b .register; stopped = true }
+    pub storage : boxAt g b ≡ stopped (boxAt f b)
 
   pub record GoneBy (s : ℕ) : Type 0 where
     pub command : c ≡ Leave s
@@ -198,27 +199,27 @@ module _ (f : Floor) (c : Command) (j : ℕ) where
   pub data StationMove : Outcome → Station → Type 0 where
     station-kept : {o : Outcome} → StationMove o (stationAt f j)
     station-begins : {round v : ℕ} → c ≡ Begin j round v → isGone (stationAt f j .state) ≡ false → isBusy (stationAt f j .state) ≡ false
-        → stationAt f j .last < round → StationMove (Begun (nextRow f)) (beginner f j round)
-    station-issues : {a b v : ℕ} → c ≡ Deliver Read a b → a < f .used → rowAt f a .station ≡ j → isReading (stationAt f j .state) a ≡ true
+        → stationAt f j .last < round → StationMove (Begun (rowTaken f j)) (beginner f j round)
+    station-issues : {a b v : ℕ} → c ≡ Deliver Read a b → InUse f a → rowAt f a .station ≡ j → isReading (stationAt f j .state) a ≡ true
         → StationMove (WriteIssued v) (withState (stationAt f j) (state.Writing a))
-    station-decides : {a b v : ℕ} → c ≡ Deliver Write a b → a < f .used → rowAt f a .station ≡ j → isWriting (stationAt f j .state) a ≡ true
-        → rowAt f a .written ≡ v → StationMove (Decided v) (record { state = state.Decided a; last = stationAt f j .last; decided = v })
-    station-aborts : {p : Phase} {a b : ℕ} → c ≡ Deliver p a b → a < f .used → rowAt f a .station ≡ j → isIn p (stationAt f j .state) a ≡ true
+    station-decides : {a b v : ℕ} → c ≡ Deliver Write a b → InUse f a → rowAt f a .station ≡ j → isWriting (stationAt f j .state) a ≡ true
+        → rowAt f a .written ≡ v → StationMove (Decided v) (record { department = departmentAt f j; state = state.Decided a; last = stationAt f j .last; decided = v })
+    station-aborts : {p : Phase} {a b : ℕ} → c ≡ Deliver p a b → InUse f a → rowAt f a .station ≡ j → isIn p (stationAt f j .state) a ≡ true
         → StationMove (Aborted a) (withState (stationAt f j) state.Idle)
     station-leaves : c ≡ Leave j → isGone (stationAt f j .state) ≡ false → StationMove (Gone j) (withState (stationAt f j) state.Gone)
 
   -- the box j after the step
   pub data BoxMove : Outcome → StorageBox → Type 0 where
     box-kept : {o : Outcome} → BoxMove o (boxAt f j)
-    box-serves : {p : Phase} {a : ℕ} → c ≡ Serve p a j → a < f .used → boxAt f j .stopped ≡ false
-        → BoxMove (Served a) (withRegister (boxAt f j) (registerServed p (rowAt f a) (boxAt f j .register)))
-    box-stops : c ≡ Stop j → boxAt f j .stopped ≡ false → BoxMove (Stopped j) (record { register = boxAt f j .register; stopped = true })
+    box-serves : {p : Phase} {a : ℕ} → c ≡ Serve p a j → InUse f a → boxAt f j .stopped ≡ false
+        → BoxMove (Served a) (boxWith (rowDepartment a) (boxAt f j) (registerServed p (rowAt f a) (servedBy f a j)) (boxAt f j .stopped))
+    box-stops : c ≡ Stop j → boxAt f j .stopped ≡ false → BoxMove (Stopped j) (stopped (boxAt f j))
 
   -- the row j after the step; an answer is received, whatever comes of it
   pub data RowMove : Outcome → Row → Type 0 where
     row-kept : {o : Outcome} → RowMove o (rowAt f j)
-    row-begins : {s round v : ℕ} → c ≡ Begin s round v → s < f .m → j ≡ nextRow f → RowMove (Begun (nextRow f)) (newRow (f .n) s round v)
-    row-served : {p : Phase} {b : ℕ} → c ≡ Serve p j b → CanServe f p j b → RowMove (Served j) (rowServed p (rowAt f j) (boxAt f b .register) b)
+    row-begins : {s round v : ℕ} → c ≡ Begin s round v → s < f .m → j ≡ rowTaken f s → RowMove (Begun (rowTaken f s)) (newRow (f .n) s round v)
+    row-served : {p : Phase} {b : ℕ} → c ≡ Serve p j b → CanServe f p j b → RowMove (Served j) (rowServed p (rowAt f j) (servedBy f j b) b)
     row-heard : {p : Phase} {b : ℕ} {o : Outcome} → c ≡ Deliver p j b → CanDeliver f p j b → isRefused o ≡ false → RowMove o (heardRow f p j b)
     row-issues : {b v : ℕ} → c ≡ Deliver Read j b → CanDeliver f Read j b → isReading (ownerAt f j .state) j ≡ true
         → atQuorum (heardRow f Read j b .read) (f .n) ≡ true → allYes (heardRow f Read j b .read) (f .n) ≡ true → v ≡ revisionOf (heardRow f Read j b) (f .n)
@@ -234,13 +235,13 @@ module _ (f : Floor) (c : Command) (a : ℕ) (p : Phase) (b : ℕ) where
     stands-received : {o : Outcome} → c ≡ Deliver p a b → isRefused o ≡ false → StandingMove o onTheWay received
     stands-issued : {j v : ℕ} {s : Standing} → p ≡ Write → c ≡ Deliver Read a j → isReading (ownerAt f a .state) a ≡ true → StandingMove (WriteIssued v) s waiting
 
--- What a register x may have become: where a rank or a value is new, it is that of a row in use.
-pub record Grown (f : Floor) (x y : Register) : Type 0 where
+-- What a register x of the department d may have become: where a rank or a value is new, it is that of a row that the department uses.
+pub record Grown (f : Floor) (d : Department) (x y : Register) : Type 0 where
   pub read-up : x .read ≤ y .read
   pub write-up : x .write ≤ y .write
-  pub read-from : (y .read ≡ x .read) ⊎ ((a : ℕ) × (a < f .used) × (y .read ≡ rowAt f a .rank))
+  pub read-from : (y .read ≡ x .read) ⊎ ((a : ℕ) × InUse f a × (rowDepartment a ≡ d) × (y .read ≡ rowAt f a .rank))
   pub held-from : ((y .write ≡ x .write) × (y .value ≡ x .value))
-      ⊎ ((a : ℕ) × (a < f .used) × (y .write ≡ rowAt f a .rank) × (y .value ≡ rowAt f a .written))
+      ⊎ ((a : ℕ) × InUse f a × (rowDepartment a ≡ d) × (y .write ≡ rowAt f a .rank) × (y .value ≡ rowAt f a .written))
 
 -- What an attempt keeps for good.
 pub record SameAttempt (w x : Row) : Type 0 where
@@ -253,7 +254,7 @@ pub record DecidesNow (f : Floor) (c : Command) (j : ℕ) (o : Outcome) (v : ℕ
   pub attempt : ℕ
   pub box : ℕ
   pub command : c ≡ Deliver Write attempt box
-  pub used : attempt < f .used
+  pub used : InUse f attempt
   pub owner : rowAt f attempt .station ≡ j
   pub written : rowAt f attempt .written ≡ v
   pub outcome : o ≡ Decided v
@@ -263,30 +264,32 @@ pub record BeginsNow (f : Floor) (c : Command) (j : ℕ) (o : Outcome) (round : 
   pub offer : ℕ
   pub command : c ≡ Begin j round offer
   pub above : stationAt f j .last < round
-  pub outcome : o ≡ Begun (nextRow f)
+  pub outcome : o ≡ Begun (rowTaken f j)
 
--- the step that sets the highest rank begun: a begin, which makes h of it
-pub record RaisesNow (f : Floor) (c : Command) (o : Outcome) (h : ℕ) : Type 0 where
+-- the step that sets what the department d uses and its highest rank begun: a begin of a station of it, which makes x of them
+pub record RaisesNow (f : Floor) (d : Department) (c : Command) (o : Outcome) (x : Share) : Type 0 where
   pub station : ℕ
   pub round : ℕ
   pub offer : ℕ
   pub command : c ≡ Begin station round offer
-  pub outcome : o ≡ Begun (nextRow f)
-  pub highest : h ≡ highestAfter f station round
+  pub outcome : o ≡ Begun (rowTaken f station)
+  pub of : departmentAt f station ≡ d
+  pub share : x ≡ shareAfter f station round
 
 -- Wish 5 of document 02: "Its row is free once it is over and its issued requests are served at every box not stopped."
 pub record Free (f : Floor) (a : ℕ) : Type 0 where
   pub over : isActive (ownerAt f a .state) a ≡ false
   pub served : (b : ℕ) → b < f .n → boxAt f b .stopped ≡ false → (p : Phase) → isWaiting (standingOf (requestsOf p (rowAt f a)) b) ≡ false
 
--- "With all 64 used, begin takes the free row with the smallest rank, of equals the lowest"; with fewer it takes the next
-pub data TakesRow (f : Floor) : ℕ → Type 0 where
-  unused : f .used < 64 → TakesRow f (f .used)
-  free : {a : ℕ} → 64 ≤ f .used → a < 64 → isFree f a ≡ true
-      → ((c : ℕ) → c < 64 → isFree f c ≡ true → rowAt f a .rank ≤ rowAt f c .rank)
-      → ((c : ℕ) → c < a → isFree f c ≡ true → rowAt f a .rank < rowAt f c .rank)
-      → TakesRow f a
-  none : 64 ≤ f .used → ((c : ℕ) → c < 64 → isFree f c ≡ false) → TakesRow f 64
+-- "With all 64 used, begin takes the free row with the smallest rank, of equals the lowest"; with fewer it takes the next. Wish 6: among the
+-- rows of the department d.
+pub data TakesRow (f : Floor) (d : Department) : ℕ → Type 0 where
+  unused : usedOf f d < 64 → TakesRow f d (endOf f d)
+  free : {a : ℕ} → 64 ≤ usedOf f d → rowDepartment a ≡ d → a < 128 → isFree f a ≡ true
+      → ((c : ℕ) → rowDepartment c ≡ d → c < 128 → isFree f c ≡ true → rowAt f a .rank ≤ rowAt f c .rank)
+      → ((c : ℕ) → rowDepartment c ≡ d → c < a → isFree f c ≡ true → rowAt f a .rank < rowAt f c .rank)
+      → TakesRow f d a
+  none : 64 ≤ usedOf f d → ((c : ℕ) → rowDepartment c ≡ d → c < 128 → isFree f c ≡ false) → TakesRow f d 128
 
 -- What holds of every single step, accepted or refused, on any floor.
 pub record StepClaims : Type 0 where
@@ -297,8 +300,8 @@ pub record StepClaims : Type 0 where
   pub number : (f : Floor) (r : List ℕ) → numberOf (stepOf f r .outcome) ≡ refusalOf f (commandOf r)
   pub value : (f : Floor) (r : List ℕ) → valueOf (stepOf f r .outcome) ≡ valueSaid f (commandOf r)
   -- soundness, the sizes and the lengths of the arrays are kept; a new floor has them
-  pub new-sound : (n m : ℕ) → Sound (newFloorOf n m .floor)
-  pub new-lengths : (n m : ℕ) → Lengths (newFloorOf n m .floor)
+  pub new-sound : (n m : ℕ) (departments : List ℕ) → Sound (newFloorOf n m departments .floor)
+  pub new-lengths : (n m : ℕ) (departments : List ℕ) → Lengths (newFloorOf n m departments .floor)
   pub sound : (f : Floor) (r : List ℕ) → Sound f → Sound (stepOf f r .floor)
   pub lengths : (f : Floor) (r : List ℕ) → Lengths f → Lengths (stepOf f r .floor)
   pub sizes : (f : Floor) (r : List ℕ) → SameSizes f (stepOf f r .floor)
@@ -308,28 +311,30 @@ pub record StepClaims : Type 0 where
   pub station : (f : Floor) (r : List ℕ) (j : ℕ) → StationMove f (commandOf r) j (stepOf f r .outcome) (stationAt (stepOf f r .floor) j)
   pub storage : (f : Floor) (r : List ℕ) (j : ℕ) → BoxMove f (commandOf r) j (stepOf f r .outcome) (boxAt (stepOf f r .floor) j)
   pub row : (f : Floor) (r : List ℕ) (j : ℕ) → RowMove f (commandOf r) j (stepOf f r .outcome) (rowAt (stepOf f r .floor) j)
-  pub standing : (f : Floor) (r : List ℕ) → Sound f → Lengths f → (a : ℕ) → a < 64 → (p : Phase) (b : ℕ) → b < f .n
+  pub standing : (f : Floor) (r : List ℕ) → Sound f → Lengths f → (a : ℕ) → a < 128 → (p : Phase) (b : ℕ) → b < f .n
       → StandingMove f (commandOf r) a p b (stepOf f r .outcome) (standingOf (requestsOf p (rowAt f a)) b) (standingOf (requestsOf p (rowAt (stepOf f r .floor) a)) b)
   -- "Stop box b, for good": a stopped box never changes again. "a station leaves for good": one that is gone stays gone
   pub stopped-stays : (f : Floor) (r : List ℕ) (j : ℕ) → boxAt f j .stopped ≡ true → boxAt (stepOf f r .floor) j ≡ boxAt f j
   pub gone-stays : (f : Floor) (r : List ℕ) (j : ℕ) → isGone (stationAt f j .state) ≡ true → isGone (stationAt (stepOf f r .floor) j .state) ≡ true
-  -- a box's ranks never fall, and each is its old one or that of a row in use
-  pub grown : (f : Floor) (r : List ℕ) (j : ℕ) → Grown f (boxAt f j .register) (boxAt (stepOf f r .floor) j .register)
+  -- a box's ranks never fall, and each is its old one or that of a row in use, department by department
+  pub grown : (f : Floor) (r : List ℕ) (d : Department) (j : ℕ) → Grown f d (registerAt f d j) (registerAt (stepOf f r .floor) d j)
   -- "It also keeps its last round and its decided revision, which survives its going": both change at the step that says so only
   pub last-from : (f : Floor) (r : List ℕ) (j : ℕ) → (stationAt (stepOf f r .floor) j .last ≡ stationAt f j .last)
       ⊎ BeginsNow f (commandOf r) j (stepOf f r .outcome) (stationAt (stepOf f r .floor) j .last)
   pub decided-from : (f : Floor) (r : List ℕ) (j : ℕ) → (stationAt (stepOf f r .floor) j .decided ≡ stationAt f j .decided)
       ⊎ DecidesNow f (commandOf r) j (stepOf f r .outcome) (stationAt (stepOf f r .floor) j .decided)
-  -- "Rows are numbered from 0 in order of beginning", up to 64: one more is in use exactly where the step says begun; an attempt keeps
-  -- its station, its rank and its offer until its row is given back
-  pub used : (f : Floor) (r : List ℕ) → stepOf f r .floor .used ≡ (if isBegun (stepOf f r .outcome) then usedAfter (f .used) else f .used)
+  -- a station keeps its department
+  pub department : (f : Floor) (r : List ℕ) (j : ℕ) → departmentAt (stepOf f r .floor) j ≡ departmentAt f j
+  -- an attempt keeps its station, its rank and its offer until its row is given back
   pub attempt : (f : Floor) (r : List ℕ) (j : ℕ) → ¬ (stepOf f r .outcome ≡ Begun j) → SameAttempt (rowAt f j) (rowAt (stepOf f r .floor) j)
   -- wish 5: what a free row is, and which row a begin takes
   pub free : (f : Floor) (a : ℕ) → isFree f a ≡ true → Free f a
   pub free-holds : (f : Floor) (a : ℕ) → Free f a → isFree f a ≡ true
-  pub takes : (f : Floor) → TakesRow f (nextRow f)
-  -- "the highest rank begun alone, which the floor keeps": it changes at a begin only
-  pub highest-from : (f : Floor) (r : List ℕ) → (stepOf f r .floor .highest ≡ f .highest) ⊎ RaisesNow f (commandOf r) (stepOf f r .outcome) (stepOf f r .floor .highest)
+  pub takes : (f : Floor) (d : Department) → TakesRow f d (nextRow f d)
+  -- "Rows are numbered from 0 in order of beginning", up to 64 in each department: one more is in use exactly where a station of the
+  -- department begins. "the highest rank begun alone, which the floor keeps": it changes at these begins only
+  pub share-from : (f : Floor) (r : List ℕ) (d : Department) → (shareOf d (stepOf f r .floor) ≡ shareOf d f)
+      ⊎ RaisesNow f d (commandOf r) (stepOf f r .outcome) (shareOf d (stepOf f r .floor))
   -- "boxes are counted, not different answers": each accepted delivery makes the answers received from boxes below n one more
   pub counted : (f : Floor) (r : List ℕ) (p : Phase) (a b : ℕ) → Lengths f → commandOf r ≡ Deliver p a b → isRefused (stepOf f r .outcome) ≡ false
       → countBelow (requestsOf p (rowAt (stepOf f r .floor) a) .heard) (f .n) ≡ countBelow (requestsOf p (rowAt f a) .heard) (f .n) + 1

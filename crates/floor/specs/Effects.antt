@@ -1,9 +1,10 @@
--- Document 01, "Steps", and wishes 2 and 5 of document 02: the floor that an accepted step leads to, and what came of it.
+-- Document 01, "Steps", and wishes 2, 5 and 6 of document 02: the floor that an accepted step leads to, and what came of it.
 use Prim.Native.Nat.{ℕ, max}
 use mathlib.Core.Bool.{true}
 use Rattle.base.specs.Choice.{if_then_else_}
 use Rattle.base.specs.Numbers.{rankOf}
-use Rattle.register.specs.Register.{withRegister}
+use Rattle.register.specs.declared.Register.{Register}
+use Rattle.register.specs.declared.StorageBox.{StorageBox}
 use Rattle.requests.specs.Requests.{ofPhase, verdictOf}
 use Rattle.requests.specs.declared.Phase.{Phase}
 use Rattle.requests.specs.declared.Verdict.{Verdict}
@@ -13,12 +14,13 @@ use Rattle.commands.specs.declared.Command.the-variants.{Begin, Serve, Deliver,
 use Rattle.commands.specs.declared.Outcome.{Outcome}
 use Rattle.commands.specs.declared.Outcome.the-variants as said
 use Rattle.attempts.specs.Stations.{withState, isIn}
-use Rattle.attempts.specs.Rows.{newRow, usedAfter, issued, revisionOf, rowServed, registerServed, requestsHeard, rowHeard}
+use Rattle.attempts.specs.Rows.{rowDepartment, newRow, usedAfter, issued, revisionOf, rowServed, registerServed, requestsHeard, rowHeard}
 use Rattle.attempts.specs.declared.State.the-variants as state
 use Rattle.attempts.specs.declared.Station.{Station}
 use Rattle.attempts.specs.declared.Row.{Row}
-use Rattle.floor.specs.Floors.{boxAt, stationAt, rowAt, ownerAt, withUsed, withHighest, withBox, withStation, withRow}
+use Rattle.floor.specs.Floors.{boxAt, stationAt, rowAt, ownerAt, registerAt, departmentAt, usedOf, highestOf, withShare, withBox, withRegister, withStation, withRow}
 use Rattle.floor.specs.Free.{nextRow}
+use Rattle.floor.specs.declared.Share.{Share}
 use Rattle.floor.specs.declared.Floor.{Floor}
 use Rattle.floor.specs.declared.Stepped.{Stepped}
 
@@ -26,25 +28,37 @@ use Rattle.floor.specs.declared.Stepped.{Stepped}
 abbrev pub stepped : (f : Floor) (o : Outcome) → Stepped
 stepped f o = record { floor = f; outcome = o }
 
--- "1 Begin (station, round, revision): a new row, a read request waiting at every box; the station is reading." The row is the next or,
--- wish 5, one that is given back: all in it is new, which "drops its answers still on the way".
-abbrev pub beginner : (f : Floor) (station round : ℕ) → Station
-beginner f station round = record { state = state.Reading (nextRow f); last = round; decided = stationAt f station .decided }
+-- "1 Begin (station, round, revision): a new row, a read request waiting at every box; the station is reading." The row is the next of the
+-- station's department or, wish 5, one that is given back: all in it is new, which "drops its answers still on the way".
+abbrev pub rowTaken : (f : Floor) (station : ℕ) → ℕ
+rowTaken f station = nextRow f (departmentAt f station)
 
--- "the highest rank begun alone, which the floor keeps"
+abbrev pub beginner : (f : Floor) (station round : ℕ) → Station
+beginner f station round =
+    record { department = departmentAt f station; state = state.Reading (rowTaken f station); last = round; decided = stationAt f station .decided }
+
+-- "the highest rank begun alone, which the floor keeps", and of its rows one more in use, in the department
 abbrev pub highestAfter : (f : Floor) (station round : ℕ) → ℕ
-highestAfter f station round = max (f .highest) (rankOf round station)
+highestAfter f station round = max (highestOf f (departmentAt f station)) (rankOf round station)
+
+abbrev pub shareAfter : (f : Floor) (station round : ℕ) → Share
+shareAfter f station round = record { used = usedAfter (usedOf f (departmentAt f station)); highest = highestAfter f station round }
 
 abbrev pub afterBegin : (f : Floor) (station round revision : ℕ) → Floor
 afterBegin f station round revision =
-    withHighest (withUsed (withStation (withRow f (nextRow f) (newRow (f .n) station round revision)) station (beginner f station round)) (usedAfter (f .used)))
-    (highestAfter f station round)
+    withShare (departmentAt f station)
+    (withStation (withRow f (rowTaken f station) (newRow (f .n) station round revision)) station (beginner f station round))
+    (shareAfter f station round)
 
--- "2, 3 Serve a read (2) or a write (3) of attempt a at box b: the routine runs and its answer is on the way."
+-- "2, 3 Serve a read (2) or a write (3) of attempt a at box b: the routine runs and its answer is on the way." Wish 6: "A serve or delivery
+-- belongs to its row's department": the routine runs on the box's record of that department.
+abbrev pub servedBy : (f : Floor) (a b : ℕ) → Register
+servedBy f a b = registerAt f (rowDepartment a) b
+
 abbrev pub afterServe : (f : Floor) (phase : Phase) (a b : ℕ) → Floor
 afterServe f phase a b =
-    withRow (withBox f b (withRegister (boxAt f b) (registerServed phase (rowAt f a) (boxAt f b .register)))) a
-    (rowServed phase (rowAt f a) (boxAt f b .register) b)
+    withRow (withRegister (rowDepartment a) f b (registerServed phase (rowAt f a) (servedBy f a b))) a
+    (rowServed phase (rowAt f a) (servedBy f a b) b)
 
 -- "4, 5 Deliver a read answer (4) or a write answer (5) of a from b: it becomes received": the row a then
 abbrev pub heardRow : (f : Floor) (phase : Phase) (a b : ℕ) → Row
@@ -66,7 +80,8 @@ readEndedOn f a w = stepped (afterIssue f a w (revisionOf w (f .n))) (said.Write
 
 -- "When the q-th write answer reaches a writing station, it decides if all q say taken; otherwise it aborts and is idle."
 abbrev pub decider : (f : Floor) (a : ℕ) (w : Row) → Station
-decider f a w = record { state = state.Decided a; last = stationAt f (w .station) .last; decided = w .written }
+decider f a w =
+    record { department = departmentAt f (w .station); state = state.Decided a; last = stationAt f (w .station) .last; decided = w .written }
 
 abbrev pub afterDecision : (f : Floor) (a : ℕ) (w : Row) → Floor
 afterDecision f a w = withStation (withRow f a w) (w .station) (decider f a w)
@@ -94,9 +109,12 @@ deliveredOn f phase a b =
     if isIn phase (ownerAt f a .state) a then heardOn f phase a b (verdictOn f phase a b)
     else receivedOn f phase a b
 
--- "6 Stop box b, for good."
+-- "6 Stop box b, for good." Wish 6: "Only box stops, n and m are shared."
+abbrev pub stopped : (x : StorageBox) → StorageBox
+stopped x = record { sails = x .sails; canvas = x .canvas; stopped = true }
+
 abbrev pub afterStop : (f : Floor) (b : ℕ) → Floor
-afterStop f b = withBox f b (record { register = boxAt f b .register; stopped = true })
+afterStop f b = withBox f b (stopped (boxAt f b))
 
 -- "7 Gone: a station leaves for good."
 abbrev pub afterLeave : (f : Floor) (s : ℕ) → Floor
@@ -104,7 +122,7 @@ afterLeave f s = withStation f s (withState (stationAt f s) state.Gone)
 
 -- what an accepted step leads to, and says
 abbrev pub effectOn : (f : Floor) (c : Command) → Stepped
-effectOn f (Begin s round v) = stepped (afterBegin f s round v) (said.Begun (nextRow f))
+effectOn f (Begin s round v) = stepped (afterBegin f s round v) (said.Begun (rowTaken f s))
 effectOn f (Serve p a b) = stepped (afterServe f p a b) (said.Served a)
 effectOn f (Deliver p a b) = deliveredOn f p a b
 effectOn f (Stop b) = stepped (afterStop f b) (said.Stopped b)
@@ -123,7 +141,7 @@ deliveredValue f phase a b =
     if isIn phase (ownerAt f a .state) a then heardValue f phase a b (verdictOn f phase a b) else a
 
 abbrev pub valueOn : (f : Floor) (c : Command) → ℕ
-valueOn f (Begin s round v) = nextRow f
+valueOn f (Begin s round v) = rowTaken f s
 valueOn f (Serve p a b) = a
 valueOn f (Deliver p a b) = deliveredValue f p a b
 valueOn f (Stop b) = b

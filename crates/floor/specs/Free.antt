@@ -1,19 +1,20 @@
--- Document 02, wish 5: when a row is free, and the row that a begin takes.
-use Prim.Native.Nat.{ℕ, zero, suc}
+-- Document 02, wishes 5 and 6: when a row is free, and the row that a begin takes in its department.
+use Prim.Native.Nat.{ℕ, zero, suc, _+_}
 use mathlib.Core.List.{List}
 use mathlib.Core.Bool.{Bool, true, false}
 use lib.ListN.{getD}
 use lib.Dec.{ltb}
 use Rattle.base.specs.Choice.{if_then_else_}
 use Rattle.register.specs.Register.{box0}
+use Rattle.register.specs.declared.Department.{Department}
 use Rattle.register.specs.declared.StorageBox.{StorageBox}
 use Rattle.commands.specs.declared.Command.{Command}
 use Rattle.commands.specs.declared.Command.the-variants.{Begin, Serve, Deliver, Stop, Leave, Malformed}
 use Rattle.attempts.specs.Stations.{isActive}
-use Rattle.attempts.specs.Rows.{waitsAt}
+use Rattle.attempts.specs.Rows.{firstRow, waitsAt}
 use Rattle.attempts.specs.declared.State.{State}
 use Rattle.attempts.specs.declared.Row.{Row}
-use Rattle.floor.specs.Floors.{rowAt, ownerAt}
+use Rattle.floor.specs.Floors.{rowAt, ownerAt, usedOf, endOf}
 use Rattle.floor.specs.declared.Floor.{Floor}
 use Rattle.floor.specs.declared.free.Lowest.{Lowest}
 
@@ -37,7 +38,7 @@ isFree f a = freeIn (rowAt f a) (ownerAt f a .state) (f .boxes) (f .n) a
 
 -- the rank is smaller than that of the row found so far, or none was found
 unfoldable pub lowerIn : (x : Lowest) (rank : ℕ) → Bool
-lowerIn x rank = if ltb (x .row) 64 then ltb rank (x .rank) else true
+lowerIn x rank = if ltb (x .row) 128 then ltb rank (x .rank) else true
 
 -- the better of the row found so far and the row a: that, if it is free and its rank is smaller
 unfoldable pub betterIn : (x : Lowest) (w : Row) (state : State) (boxes : List StorageBox) (n a : ℕ) → Lowest
@@ -47,34 +48,38 @@ betterIn x w state boxes n a =
 
 -- none was found
 abbrev pub noRow : Lowest
-noRow = record { row = 64; rank = 0 }
+noRow = record { row = 128; rank = 0 }
 
--- "the free row with the smallest rank, of equals the lowest", among the first k rows; its number is 64 where none of them is free
-unfoldable pub freeBelow : (f : Floor) (k : ℕ) → Lowest
-freeBelow f zero = noRow
-freeBelow f (suc k) = betterIn (freeBelow f k) (rowAt f k) (ownerAt f k .state) (f .boxes) (f .n) k
+-- "the free row with the smallest rank, of equals the lowest", among the first k rows of the department; its number is 128 where none of
+-- them is free
+unfoldable pub freeBelow : (f : Floor) (department : Department) (k : ℕ) → Lowest
+freeBelow f department zero = noRow
+freeBelow f department (suc k) =
+    betterIn (freeBelow f department k) (rowAt f (firstRow department + k)) (ownerAt f (firstRow department + k) .state) (f .boxes) (f .n)
+    (firstRow department + k)
 
--- the row that a begin takes: the next, and "With all 64 used .. the free row with the smallest rank"; 64 where no row is unused or free
-unfoldable pub nextRow : (f : Floor) → ℕ
-nextRow f = if ltb (f .used) 64 then f .used else freeBelow f 64 .row
+-- the row that a begin of the department takes: the next, and "With all 64 used .. the free row with the smallest rank"; 128 where no row is
+-- unused or free. Wish 6: "each counted (refusals 6 and 12) and freed alone"
+unfoldable pub nextRow : (f : Floor) (department : Department) → ℕ
+nextRow f department = if ltb (usedOf f department) 64 then endOf f department else freeBelow f department 64 .row
 
 -- Internal, of the loop: only a begin takes a row,
-abbrev pub takenBy : (f : Floor) (c : Command) → ℕ
-takenBy f (Begin s round v) = nextRow f
-takenBy f (Serve p a b) = 0
-takenBy f (Deliver p a b) = 0
-takenBy f (Stop b) = 0
-takenBy f (Leave s) = 0
-takenBy f Malformed = 0
+abbrev pub takenBy : (f : Floor) (department : Department) (c : Command) → ℕ
+takenBy f department (Begin s round v) = nextRow f department
+takenBy f department (Serve p a b) = 0
+takenBy f department (Deliver p a b) = 0
+takenBy f department (Stop b) = 0
+takenBy f department (Leave s) = 0
+takenBy f department Malformed = 0
 
--- and only one with all 64 used has to look for it: it looks at each row, from 0 on
-abbrev pub startOf : (used : ℕ) (c : Command) → Lowest
-startOf used (Begin s round v) = if ltb used 64 then record { row = used; rank = 0 } else noRow
-startOf used (Serve p a b) = record { row = 0; rank = 0 }
-startOf used (Deliver p a b) = record { row = 0; rank = 0 }
-startOf used (Stop b) = record { row = 0; rank = 0 }
-startOf used (Leave s) = record { row = 0; rank = 0 }
-startOf used Malformed = record { row = 0; rank = 0 }
+-- and only one with all 64 used has to look for it: it looks at each row of the department, from its first on
+abbrev pub startOf : (first used : ℕ) (c : Command) → Lowest
+startOf first used (Begin s round v) = if ltb used 64 then record { row = first + used; rank = 0 } else noRow
+startOf first used (Serve p a b) = record { row = 0; rank = 0 }
+startOf first used (Deliver p a b) = record { row = 0; rank = 0 }
+startOf first used (Stop b) = record { row = 0; rank = 0 }
+startOf first used (Leave s) = record { row = 0; rank = 0 }
+startOf first used Malformed = record { row = 0; rank = 0 }
 
 unfoldable pub firstOf : (x : Lowest) → ℕ
-firstOf x = if ltb (x .row) 64 then 64 else 0
+firstOf x = if ltb (x .row) 128 then 64 else 0

@@ -6,3 +6,4 @@ pub mod Effects
 pub mod Step
 pub mod Runs
 pub mod Claims
+pub mod Departments

@@ -8,12 +8,13 @@ use Rattle.requests.specs.declared.Phase.{Phase}
 use Rattle.commands.specs.declared.Command.{Command}
 use Rattle.commands.specs.declared.Command.the-variants.{Begin, Serve, Deliver, Stop, Leave, Malformed}
 use Rattle.attempts.specs.Stations.{isGone, isBusy}
-use Rattle.attempts.specs.Rows.{requestsOf}
-use Rattle.floor.specs.Floors.{boxAt, stationAt, rowAt, ownerAt}
+use Rattle.attempts.specs.Rows.{rowDepartment, requestsOf}
+use Rattle.floor.specs.Floors.{boxAt, stationAt, rowAt, ownerAt, departmentAt, endOf}
 use Rattle.floor.specs.Free.{nextRow}
 use Rattle.floor.specs.declared.Floor.{Floor}
 
--- 8, 9, 10, 11 (revision 0, round 0, a round not above the station's last), 12 ("no row unused or free", wish 5 of document 02)
+-- 8, 9, 10, 11 (revision 0, round 0, a round not above the station's last), 12 ("no row unused or free", wish 5 of document
+-- 02, in the station's department, wish 6)
 unfoldable pub beginRefusal : (f : Floor) (station round revision : ℕ) → ℕ
 beginRefusal f station round revision =
     if leb (f .m) station then 8
@@ -22,13 +23,13 @@ beginRefusal f station round revision =
     else if eqb revision 0 then 11
     else if eqb round 0 then 11
     else if leb round (stationAt f station .last) then 11
-    else if leb 64 (nextRow f) then 12
+    else if leb 128 (nextRow f (departmentAt f station)) then 12
     else 0
 
--- 8 (attempt, box), 13, 14, of a read or a write
+-- 8 (attempt, box), 13, 14, of a read or a write. Wish 6: an attempt not begun in its own department
 unfoldable pub serveRefusal : (f : Floor) (phase : Phase) (attempt box : ℕ) → ℕ
 serveRefusal f phase attempt box =
-    if leb (f .used) attempt then 8
+    if leb (endOf f (rowDepartment attempt)) attempt then 8
     else if leb (f .n) box then 8
     else if boxAt f box .stopped then 13
     else if isWaiting (standingOf (requestsOf phase (rowAt f attempt)) box) then 0
@@ -37,7 +38,7 @@ serveRefusal f phase attempt box =
 -- 8 (attempt, box), 9, 14
 unfoldable pub deliverRefusal : (f : Floor) (phase : Phase) (attempt box : ℕ) → ℕ
 deliverRefusal f phase attempt box =
-    if leb (f .used) attempt then 8
+    if leb (endOf f (rowDepartment attempt)) attempt then 8
     else if leb (f .n) box then 8
     else if isGone (ownerAt f attempt .state) then 9
     else if isOnTheWay (standingOf (requestsOf phase (rowAt f attempt)) box) then 0

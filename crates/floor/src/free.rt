@@ -1,4 +1,4 @@
-// Wish 5 of document 02: when a row is free, and the row that a begin takes. These are handed one row at a time: the loop that looks
+// Wishes 5 and 6 of document 02: when a row is free, and the row that a begin takes in its department. These are handed one row at a time: the loop that looks
 // through the rows of a floor stands where the floor is, so that no floor is moved for it.
 ghost use mathlib.Core.Path.{_≡_};
 ghost use Prim.Native.Nat.{_≤_};
@@ -8,7 +8,7 @@ use attempts::State;
 use commands::Command;
 use register::StorageBox;
 
-// The free row of the smallest rank found so far, and that rank; the row is 64 where none was found.
+// The free row of the smallest rank found so far, and that rank; the row is 128 where none was found.
 pub struct Lowest {
     pub row: u8,
     pub rank: u32,
@@ -58,7 +58,7 @@ fn free(w: Row, state: State, boxes: [StorageBox; 9], n: u8, a: u8) -> bool
 fn lower(x: Lowest, rank: u32) -> bool
     ensures { λ r. ⌜ r ≡ lowerIn x rank ⌝ }
 {
-    if x.row < 64 {
+    if x.row < 128 {
         return rank < x.rank;
     }
     true
@@ -88,16 +88,21 @@ pub(crate) fn better(
     x
 }
 
-// The row that the command takes where none has to be looked for; else that none was found yet.
-pub(crate) fn start(used: u8, c: Command) -> Lowest
-    ensures { λ r. ⌜ r ≡ startOf used c ⌝ }
+// The row that the command takes where none has to be looked for; else that none was found yet. The department's first row is `first`, and
+// `used` of its rows are in use.
+pub(crate) fn start(first: u8, used: u8, c: Command) -> Lowest
+    requires { ⌜ first ≤ 64 ⌝ }
+    ensures { λ r. ⌜ r ≡ startOf first used c ⌝ }
 {
     match c {
         Command::Begin(_, _, _) => {
             if used < 64 {
-                return Lowest { row: used, rank: 0 };
+                return Lowest {
+                    row: first + used,
+                    rank: 0,
+                };
             }
-            Lowest { row: 64, rank: 0 }
+            Lowest { row: 128, rank: 0 }
         }
         Command::Serve(_, _, _) => Lowest { row: 0, rank: 0 },
         Command::Deliver(_, _, _) => Lowest { row: 0, rank: 0 },
@@ -107,11 +112,11 @@ pub(crate) fn start(used: u8, c: Command) -> Lowest
     }
 }
 
-// The first row to look at: all are, where none was found yet, and else none.
+// How many rows of the department are passed over: none, where no row was found yet, and else all 64.
 pub(crate) fn first(x: Lowest) -> u8
     ensures { λ r. ⌜ r ≡ firstOf x ⌝ }
 {
-    if x.row < 64 {
+    if x.row < 128 {
         return 64;
     }
     0

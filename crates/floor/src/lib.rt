@@ -11,8 +11,10 @@ ghost use Rattle.base.specs.Choice.{if_then_else_};
 ghost use Rattle.base.specs.Records.{recordAt, recordsIn};
 ghost use Rattle.commands.specs.Commands.{commandOf};
 ghost use Rattle.commands.specs.Outcomes.{numberOf, valueOf};
-ghost use Rattle.floor.specs.Floors.{emptyFloor, newFloorOf};
-ghost use Rattle.floor.specs.Sound.{stationsBelow, soundOf};
+ghost use Rattle.attempts.specs.Rows.{firstRow};
+ghost use Rattle.register.specs.Register.{ofDepartment};
+ghost use Rattle.floor.specs.Floors.{departmentFrom, stationsTold, emptyFloor, newFloorOf};
+ghost use Rattle.floor.specs.Sound.{stationsBelow, shareSound, soundOf};
 ghost use Rattle.floor.specs.Free.{nextRow};
 ghost use Rattle.floor.specs.Step.{applyOf, stepOf, refusalOf, valueSaid};
 ghost use Rattle.floor.specs.Runs.{stopsAt, runFrom, refusalBy, playedIn, drivenIn};
@@ -23,20 +25,31 @@ use attempts::Station;
 use commands::Command;
 use commands::Outcome;
 use free::Lowest;
+use register::Department;
 use register::Register;
 use register::StorageBox;
 
 mod free;
 
-// The floor: n boxes, m stations, the rows of attempts, of which `used` are in use, and the highest rank begun, 0 where none was.
+// What a department has begun: how many of its 64 rows are in use, and its highest rank, 0 where it has begun none.
+pub struct Share {
+    pub used: u8,
+    pub highest: u32,
+}
+
+pub struct Shares {
+    pub sails: Share,
+    pub canvas: Share,
+}
+
+// The floor: n boxes, m stations, what each department has begun, and the rows of attempts, 0 to 63 of sails and 64 to 127 of canvas.
 pub struct Floor {
     pub n: u8,
     pub m: u8,
-    pub used: u8,
-    pub highest: u32,
+    pub shares: Shares,
     pub boxes: [StorageBox; 9],
     pub stations: [Station; 16],
-    pub rows: [Row; 64],
+    pub rows: [Row; 128],
 }
 
 // A floor and what came of the step that led to it.
@@ -45,7 +58,7 @@ pub struct Stepped {
     pub outcome: Outcome,
 }
 
-// A new floor, or refusal 3 with the new floor of one box and one station.
+// A new floor, or refusal 3 or 22 with the new floor of one box and one station, sails.
 pub struct NewFloor {
     pub floor: Floor,
     pub refusal: u8,
@@ -72,9 +85,45 @@ pub struct Played {
     pub refusal: u8,
 }
 
-// A floor of n boxes and m stations on which nothing has happened.
-fn empty(n: u8, m: u8) -> Floor
-    ensures { λ r. ⌜ r ≡ emptyFloor n m ⌝ }
+// The department of a byte.
+fn department_from(byte: u8) -> Department
+    ensures { λ r. ⌜ r ≡ departmentFrom byte ⌝ }
+{
+    if byte == 0 {
+        return Department::Sails;
+    }
+    Department::Canvas
+}
+
+// The stations of a new floor, told their departments.
+fn stations_told(departments: &[u8]) -> [Station; 16]
+    requires { ⌜ length (now departments) ≤ 16 ⌝ }
+    ensures { λ r. ⌜ r ≡ stationsTold (now (departments .entry)) (length (now (departments .entry))) ⌝ }
+{
+    let mut stations = [Station {
+        department: Department::Sails,
+        state: State::Idle,
+        last: 0,
+        decided: 0,
+    }; 16];
+    let mut k: usize = 0;
+    while k < departments.len() {
+        let department = department_from(departments[k]);
+        stations[k] = Station {
+            department,
+            state: State::Idle,
+            last: 0,
+            decided: 0,
+        };
+        k += 1;
+    }
+    stations
+}
+
+// A floor of n boxes and m stations of these departments on which nothing has happened.
+fn empty(n: u8, m: u8, departments: &[u8]) -> Floor
+    requires { ⌜ length (now departments) ≤ 16 ⌝ }
+    ensures { λ r. ⌜ r ≡ emptyFloor n m (now (departments .entry)) ⌝ }
 {
     let register = Register {
         read: 0,
@@ -82,40 +131,78 @@ fn empty(n: u8, m: u8) -> Floor
         value: 0,
     };
     let storage = StorageBox {
-        register,
+        sails: register,
+        canvas: register,
         stopped: false,
     };
     let boxes = [storage; 9];
-    let stations = [Station {
-        state: State::Idle,
-        last: 0,
-        decided: 0,
-    }; 16];
+    let stations = stations_told(departments);
     let row = attempts::unused();
-    let rows = [row; 64];
+    let rows = [row; 128];
+    let share = Share {
+        used: 0,
+        highest: 0,
+    };
+    let shares = Shares {
+        sails: share,
+        canvas: share,
+    };
     Floor {
         n,
         m,
-        used: 0,
-        highest: 0,
+        shares,
         boxes,
         stations,
         rows,
     }
 }
 
-pub fn new_floor(n: u8, m: u8) -> NewFloor
-    ensures { λ r. ⌜ r ≡ newFloorOf n m ⌝ }
+// A new floor is told the departments of its stations, one byte each: 0 sails, 1 canvas.
+pub fn new_floor(n: u8, m: u8, departments: &[u8]) -> NewFloor
+    ensures { λ r. ⌜ r ≡ newFloorOf n m (now (departments .entry)) ⌝ }
 {
     if !base::sizes_right(n, m) {
         return NewFloor {
-            floor: empty(1, 1),
+            floor: empty(1, 1, &[]),
             refusal: 3,
         };
     }
+    if base::departments_wrong(m as usize, departments) {
+        return NewFloor {
+            floor: empty(1, 1, &[]),
+            refusal: 22,
+        };
+    }
     NewFloor {
-        floor: empty(n, m),
+        floor: empty(n, m, departments),
         refusal: 0,
+    }
+}
+
+// What the department has begun.
+pub fn share_of(x: Shares, d: Department) -> Share
+    ensures { λ r. ⌜ r ≡ ofDepartment d (x .sails) (x .canvas) ⌝ }
+{
+    match d {
+        Department::Sails => x.sails,
+        Department::Canvas => x.canvas,
+    }
+}
+
+// The same with that of the department stored.
+fn shares_with(x: Shares, d: Department, share: Share) -> Shares
+    ensures { λ r. ⌜ r ≡ record { sails = ofDepartment d share (x .sails); canvas = ofDepartment d (x .canvas) share } ⌝ }
+{
+    let mut y = x;
+    match d {
+        Department::Sails => {
+            y.sails = share;
+            y
+        }
+        Department::Canvas => {
+            y.canvas = share;
+            y
+        }
     }
 }
 
@@ -128,19 +215,32 @@ fn and(x: bool, y: bool) -> bool
     false
 }
 
-// The rows in use have a station below m.
-fn stations_below(f: Floor) -> bool
-    requires { ⌜ f .used ≤ 64 ⌝ }
-    ensures { λ r. ⌜ r ≡ stationsBelow (f .rows) (f .m) (f .used) ⌝ }
+// The rows of a department that are in use, `used` from `first` on, have a station below m.
+fn stations_below(f: Floor, first: u8, used: u8) -> bool
+    requires { ⌜ (first ≤ 64) × (used ≤ 64) ⌝ }
+    ensures { λ r. ⌜ r ≡ stationsBelow (f .rows) (f .m) first used ⌝ }
 {
     let mut ok = true;
     let mut k: u8 = 0;
-    while k < f.used {
-        let w = f.rows[k as usize];
+    while k < used {
+        let w = f.rows[(first + k) as usize];
         ok = and(w.station < f.m, ok);
         k += 1;
     }
     ok
+}
+
+// Refusal 6 does not apply to the rows that the department uses.
+fn share_sound(f: Floor, d: Department) -> bool
+    ensures { λ r. ⌜ r ≡ shareSound f d ⌝ }
+{
+    let shares = f.shares;
+    let share = share_of(shares, d);
+    let first = attempts::first_row(d);
+    if 64 < share.used {
+        return false;
+    }
+    stations_below(f, first, share.used)
 }
 
 // Refusal 6 does not apply.
@@ -150,42 +250,46 @@ pub fn sound(f: Floor) -> bool
     if !base::sizes_right(f.n, f.m) {
         return false;
     }
-    if 64 < f.used {
+    if !share_sound(f, Department::Sails) {
         return false;
     }
-    stations_below(f)
+    share_sound(f, Department::Canvas)
 }
 
 // The same on a sound floor.
-fn next_sound(f: Floor) -> u8
+fn next_sound(f: Floor, d: Department) -> u8
     requires { ⌜ Sound f ⌝ }
-    ensures { λ r. ⌜ r ≡ nextRow f ⌝ }
+    ensures { λ r. ⌜ r ≡ nextRow f d ⌝ }
 {
-    if f.used < 64 {
-        return f.used;
+    let shares = f.shares;
+    let share = share_of(shares, d);
+    let first = attempts::first_row(d);
+    if share.used < 64 {
+        return first + share.used;
     }
-    let mut found = Lowest { row: 64, rank: 0 };
-    let mut a: u8 = 0;
-    while a < 64 {
+    let mut found = Lowest { row: 128, rank: 0 };
+    let mut k: u8 = 0;
+    while k < 64 {
+        let a = first + k;
         let w = f.rows[a as usize];
         let owner = f.stations[w.station as usize];
         let state = owner.state;
         let boxes = f.boxes;
         found = free::better(found, w, state, boxes, f.n, a);
-        a += 1;
+        k += 1;
     }
     found.row
 }
 
-// The row that a begin takes on a sound floor: the next, or with all 64 used the free one with the smallest rank, of equals the lowest.
-// 64 where no row is unused or free, and where the floor is not sound.
-pub fn next_row(f: Floor) -> u8
-    ensures { λ r. ⌜ r ≡ (if soundOf f then nextRow f else 64) ⌝ }
+// The row that a begin of the department takes on a sound floor: the next, or with all its 64 used the free one with the smallest rank, of
+// equals the lowest. 128 where no row is unused or free, and where the floor is not sound.
+pub fn next_row(f: Floor, d: Department) -> u8
+    ensures { λ r. ⌜ r ≡ (if soundOf f then nextRow f d else 128) ⌝ }
 {
     if !sound(f) {
-        return 64;
+        return 128;
     }
-    next_sound(f)
+    next_sound(f, d)
 }
 
 // A run ends behind a step that said so.
@@ -237,15 +341,23 @@ fn run_sound(mut f: Floor, first: Command, records: &[u8], until: Until) -> Ran
     let mut c = first;
     let mut k: usize = 0;
     loop {
-        let mut found = free::start(f.used, c);
-        let mut a = free::first(found);
-        while a < 64 {
+        let near = parts::station_place(0, c) as usize;
+        let named = f.stations[near];
+        let own = named.department;
+        let d = parts::department_in(own, c);
+        let shares = f.shares;
+        let share = share_of(shares, d);
+        let first = attempts::first_row(d);
+        let mut found = free::start(first, share.used, c);
+        let mut passed = free::first(found);
+        while passed < 64 {
+            let a = first + passed;
             let w = f.rows[a as usize];
             let owner = f.stations[w.station as usize];
             let state = owner.state;
             let boxes = f.boxes;
             found = free::better(found, w, state, boxes, f.n, a);
-            a += 1;
+            passed += 1;
         }
         let next = found.row;
         let i = parts::row_place(next, c) as usize;
@@ -253,8 +365,20 @@ fn run_sound(mut f: Floor, first: Command, records: &[u8], until: Until) -> Ran
         let row = f.rows[i];
         let j = parts::station_place(row.station, c) as usize;
         let storage = f.boxes[b];
+        let register = register::register_of(storage, d);
         let station = f.stations[j];
-        let x = parts::gathered(f.n, f.m, f.used, next, f.highest, row, storage, station);
+        let x = parts::gathered(
+            f.n,
+            f.m,
+            first,
+            share.used,
+            next,
+            share.highest,
+            row,
+            register,
+            storage.stopped,
+            station,
+        );
         let y = parts::change(x, c);
         let o = y.outcome;
         if commands::refused(o) {
@@ -266,13 +390,18 @@ fn run_sound(mut f: Floor, first: Command, records: &[u8], until: Until) -> Ran
         }
         let z = y.parts;
         let row2 = z.row;
-        let storage2 = z.storage;
+        let register2 = z.register;
         let station2 = z.station;
+        let storage2 = register::box_with(storage, d, register2, z.stopped);
+        let share2 = Share {
+            used: z.used,
+            highest: z.highest,
+        };
+        let shares2 = shares_with(shares, d, share2);
         f.rows[i] = row2;
         f.boxes[b] = storage2;
         f.stations[j] = station2;
-        f.used = z.used;
-        f.highest = z.highest;
+        f.shares = shares2;
         if over(count - k, until, o) {
             return Ran {
                 floor: f,

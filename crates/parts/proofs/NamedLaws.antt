@@ -1,5 +1,5 @@
 -- The refusal of a serve and of a delivery, from the tests of the code: t is that the attempt is not begun or that there is no such box.
-use Prim.Native.Nat.{ℕ}
+use Prim.Native.Nat.{ℕ, _+_}
 use mathlib.Core.Path.{_≡_, refl, sym, _∙_}
 use mathlib.Core.Bool.{Bool, true, false}
 use lib.Dec.{leb}
@@ -12,7 +12,7 @@ use Rattle.attempts.specs.Stations.{isGone}
 use Rattle.parts.specs.Parts.{serveIn, deliverIn}
 use Rattle.parts.specs.declared.Parts.{Parts}
 
-module _ (x : Parts) (p : Phase) (a b : ℕ) (t : Bool) (e : t ≡ (if leb (x .used) a then true else leb (x .n) b)) where
+module _ (x : Parts) (p : Phase) (a b : ℕ) (t : Bool) (e : t ≡ (if leb (x .first + x .used) a then true else leb (x .n) b)) where
   pub serve-8 : t ≡ true → 8 ≡ serveIn x p a b
   unfolding serveIn
   serve-8 h = on-true _ (sym e ∙ h) refl ∙ choice-either _ _ _ _
@@ -22,7 +22,7 @@ module _ (x : Parts) (p : Phase) (a b : ℕ) (t : Bool) (e : t ≡ (if leb (x .u
   deliver-8 h = on-true _ (sym e ∙ h) refl ∙ choice-either _ _ _ _
 
   module _ (h : t ≡ false) where
-    pub serve-13 : x .storage .stopped ≡ true → 13 ≡ serveIn x p a b
+    pub serve-13 : x .stopped ≡ true → 13 ≡ serveIn x p a b
     unfolding serveIn
     serve-13 s = on-false _ (sym e ∙ h) (on-true _ s refl) ∙ choice-either _ _ _ _
 
@@ -30,7 +30,7 @@ module _ (x : Parts) (p : Phase) (a b : ℕ) (t : Bool) (e : t ≡ (if leb (x .u
     unfolding deliverIn
     deliver-9 s = on-false _ (sym e ∙ h) (on-true _ s refl) ∙ choice-either _ _ _ _
 
-    module _ (s : x .storage .stopped ≡ false) (w : Bool) (ew : w ≡ isWaiting (standingOf (requestsOf p (x .row)) b)) where
+    module _ (s : x .stopped ≡ false) (w : Bool) (ew : w ≡ isWaiting (standingOf (requestsOf p (x .row)) b)) where
       pub serve-14 : w ≡ false → 14 ≡ serveIn x p a b
       unfolding serveIn
       serve-14 q = on-false _ (sym e ∙ h) (on-false _ s (on-false _ (sym ew ∙ q) refl)) ∙ choice-either _ _ _ _

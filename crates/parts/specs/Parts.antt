@@ -1,13 +1,13 @@
 -- Internal. The parts of a floor that the loop of `floor` reads for one step and stores behind it, and the step on these alone: words of
 -- private contracts. No promise rests on this file: what a step is on a floor stands in crates/floor/specs, and crates/floor/proofs/Joins
 -- shows that on a sound floor the two are the same.
-use Prim.Native.Nat.{ℕ, max}
-use mathlib.Core.Bool.{true}
+use Prim.Native.Nat.{ℕ, _+_, max}
+use mathlib.Core.Bool.{Bool, true}
 use lib.Dec.{eqb, leb, ltb}
 use Rattle.base.specs.Choice.{if_then_else_}
 use Rattle.base.specs.Numbers.{rankOf}
-use Rattle.register.specs.Register.{withRegister}
-use Rattle.register.specs.declared.StorageBox.{StorageBox}
+use Rattle.register.specs.declared.Department.{Department}
+use Rattle.register.specs.declared.Register.{Register}
 use Rattle.requests.specs.Requests.{ofPhase, standingOf, isWaiting, isOnTheWay, verdictOf}
 use Rattle.requests.specs.declared.Phase.{Phase}
 use Rattle.requests.specs.declared.Verdict.{Verdict}
@@ -16,7 +16,7 @@ use Rattle.commands.specs.declared.Command.{Command}
 use Rattle.commands.specs.declared.Command.the-variants.{Begin, Serve, Deliver, Stop, Leave, Malformed}
 use Rattle.commands.specs.declared.Outcome.the-variants as said
 use Rattle.attempts.specs.Stations.{isGone, isBusy, isIn, withState}
-use Rattle.attempts.specs.Rows.{requestsOf, newRow, revisionOf, usedAfter, issued, rowServed, registerServed, requestsHeard, rowHeard}
+use Rattle.attempts.specs.Rows.{rowDepartment, requestsOf, newRow, revisionOf, usedAfter, issued, rowServed, registerServed, requestsHeard, rowHeard}
 use Rattle.attempts.specs.declared.State.the-variants as state
 use Rattle.attempts.specs.declared.Station.{Station}
 use Rattle.attempts.specs.declared.Row.{Row}
@@ -53,6 +53,16 @@ stationIn owner (Stop b) = 0
 stationIn owner (Leave s) = s
 stationIn owner Malformed = 0
 
+-- The department that the step belongs to, where the station that it names is of the department `own`. A stop and what is malformed belong
+-- to none: one is named, and stored as it was.
+abbrev pub departmentIn : (own : Department) (c : Command) → Department
+departmentIn own (Begin s round v) = own
+departmentIn own (Serve p a b) = rowDepartment a
+departmentIn own (Deliver p a b) = rowDepartment a
+departmentIn own (Stop b) = own
+departmentIn own (Leave s) = own
+departmentIn own Malformed = own
+
 -- Refusals 7 to 14, 0 where the step is accepted.
 unfoldable pub beginIn : (x : Parts) (s round v : ℕ) → ℕ
 beginIn x s round v =
@@ -62,20 +72,20 @@ beginIn x s round v =
     else if eqb v 0 then 11
     else if eqb round 0 then 11
     else if leb round (x .station .last) then 11
-    else if leb 64 (x .next) then 12
+    else if leb 128 (x .next) then 12
     else 0
 
 unfoldable pub serveIn : (x : Parts) (p : Phase) (a b : ℕ) → ℕ
 serveIn x p a b =
-    if leb (x .used) a then 8
+    if leb (x .first + x .used) a then 8
     else if leb (x .n) b then 8
-    else if x .storage .stopped then 13
+    else if x .stopped then 13
     else if isWaiting (standingOf (requestsOf p (x .row)) b) then 0
     else 14
 
 unfoldable pub deliverIn : (x : Parts) (p : Phase) (a b : ℕ) → ℕ
 deliverIn x p a b =
-    if leb (x .used) a then 8
+    if leb (x .first + x .used) a then 8
     else if leb (x .n) b then 8
     else if isGone (x .station .state) then 9
     else if isOnTheWay (standingOf (requestsOf p (x .row)) b) then 0
@@ -84,7 +94,7 @@ deliverIn x p a b =
 unfoldable pub stopIn : (x : Parts) (b : ℕ) → ℕ
 stopIn x b =
     if leb (x .n) b then 8
-    else if x .storage .stopped then 13
+    else if x .stopped then 13
     else 0
 
 unfoldable pub leaveIn : (x : Parts) (s : ℕ) → ℕ
@@ -101,10 +111,21 @@ refusalIn x (Stop b) = stopIn x b
 refusalIn x (Leave s) = leaveIn x s
 refusalIn x Malformed = 7
 
--- row, box and station replaced
-abbrev pub withParts : (x : Parts) (row : Row) (storage : StorageBox) (station : Station) → Parts
-withParts x row storage station =
-    record { n = x .n; m = x .m; used = x .used; next = x .next; highest = x .highest; row = row; storage = storage; station = station }
+-- row, register, whether the box has stopped, and station replaced
+abbrev pub withParts : (x : Parts) (row : Row) (register : Register) (stopped : Bool) (station : Station) → Parts
+withParts x row register stopped station =
+    record {
+      n = x .n;
+      m = x .m;
+      first = x .first;
+      used = x .used;
+      next = x .next;
+      highest = x .highest;
+      row = row;
+      register = register;
+      stopped = stopped;
+      station = station;
+    }
 
 -- What an accepted step does to the parts, and what it says.
 unfoldable pub begun : (x : Parts) (s round v : ℕ) → Changed
@@ -113,12 +134,14 @@ begun x s round v =
       parts = record {
         n = x .n;
         m = x .m;
+        first = x .first;
         used = usedAfter (x .used);
         next = x .next;
         highest = max (x .highest) (rankOf round s);
         row = newRow (x .n) s round v;
-        storage = x .storage;
-        station = record { state = state.Reading (x .next); last = round; decided = x .station .decided };
+        register = x .register;
+        stopped = x .stopped;
+        station = record { department = x .station .department; state = state.Reading (x .next); last = round; decided = x .station .decided };
       };
       outcome = said.Begun (x .next);
     }
@@ -126,19 +149,18 @@ begun x s round v =
 unfoldable pub served : (x : Parts) (p : Phase) (a b : ℕ) → Changed
 served x p a b =
     record {
-      parts = withParts x (rowServed p (x .row) (x .storage .register) b)
-          (withRegister (x .storage) (registerServed p (x .row) (x .storage .register))) (x .station);
+      parts = withParts x (rowServed p (x .row) (x .register) b) (registerServed p (x .row) (x .register)) (x .stopped) (x .station);
       outcome = said.Served a;
     }
 
 -- the row w is the attempt's, its answer received
 abbrev pub receivedOnly : (x : Parts) (a : ℕ) (w : Row) → Changed
-receivedOnly x a w = record { parts = withParts x w (x .storage) (x .station); outcome = said.Received a }
+receivedOnly x a w = record { parts = withParts x w (x .register) (x .stopped) (x .station); outcome = said.Received a }
 
 abbrev pub writeIssued : (x : Parts) (a : ℕ) (w : Row) (v : ℕ) → Changed
 writeIssued x a w v =
     record {
-      parts = withParts x (issued w v (x .n)) (x .storage) (withState (x .station) (state.Writing a));
+      parts = withParts x (issued w v (x .n)) (x .register) (x .stopped) (withState (x .station) (state.Writing a));
       outcome = said.WriteIssued v;
     }
 
@@ -146,12 +168,12 @@ unfoldable pub readEnded : (x : Parts) (a : ℕ) (w : Row) → Changed
 readEnded x a w = writeIssued x a w (revisionOf w (x .n))
 
 abbrev pub abortedBy : (x : Parts) (a : ℕ) (w : Row) → Changed
-abortedBy x a w = record { parts = withParts x w (x .storage) (withState (x .station) state.Idle); outcome = said.Aborted a }
+abortedBy x a w = record { parts = withParts x w (x .register) (x .stopped) (withState (x .station) state.Idle); outcome = said.Aborted a }
 
 abbrev pub decidedBy : (x : Parts) (a : ℕ) (w : Row) → Changed
 decidedBy x a w =
     record {
-      parts = withParts x w (x .storage) (record { state = state.Decided a; last = x .station .last; decided = w .written });
+      parts = withParts x w (x .register) (x .stopped) (record { department = x .station .department; state = state.Decided a; last = x .station .last; decided = w .written });
       outcome = said.Decided (w .written);
     }
 
@@ -169,12 +191,12 @@ delivered x p a b =
 abbrev pub stoppedBox : (x : Parts) (b : ℕ) → Changed
 stoppedBox x b =
     record {
-      parts = withParts x (x .row) (record { register = x .storage .register; stopped = true }) (x .station);
+      parts = withParts x (x .row) (x .register) true (x .station);
       outcome = said.Stopped b;
     }
 
 abbrev pub goneStation : (x : Parts) (s : ℕ) → Changed
-goneStation x s = record { parts = withParts x (x .row) (x .storage) (withState (x .station) state.Gone); outcome = said.Gone s }
+goneStation x s = record { parts = withParts x (x .row) (x .register) (x .stopped) (withState (x .station) state.Gone); outcome = said.Gone s }
 
 abbrev pub turnedBack : (x : Parts) (k : ℕ) → Changed
 turnedBack x k = record { parts = x; outcome = said.Refused k }

@@ -33,7 +33,7 @@ pub(crate) fn begin_refusal(x: Parts, s: u8, round: u16, v: u32) -> u8
     if round <= st.last {
         return 11;
     }
-    if 64 <= x.next {
+    if 128 <= x.next {
         return 12;
     }
     0
@@ -60,7 +60,9 @@ pub(crate) fn begin(x: Parts, s: u8, round: u16, v: u32) -> Changed
     y.used = used;
     y.highest = highest;
     y.row = row;
+    let department = st.department;
     let station = Station {
+        department,
         state: State::Reading(a),
         last: round,
         decided: st.decided,

@@ -18,7 +18,7 @@ pub(crate) fn deliver_refusal(x: Parts, p: Phase, a: u8, b: u8) -> u8
     let state = st.state;
     let w = x.row;
     let gone = attempts::gone(state);
-    let unknown = super::places::unknown(x.used, x.n, a, b);
+    let unknown = super::places::unknown(x.first, x.used, x.n, a, b);
     if unknown {
         return 8;
     }
@@ -55,7 +55,9 @@ fn decided(x: Parts, a: u8, w: Row) -> Changed
     let st = x.station;
     let mut y = x;
     y.row = w;
+    let department = st.department;
     let station = Station {
+        department,
         state: State::Decided(a),
         last: st.last,
         decided: w.written,

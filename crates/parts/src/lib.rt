@@ -4,7 +4,7 @@ ghost use mathlib.Core.Path.{_≡_};
 use attempts::Row;
 use attempts::Station;
 use commands::Outcome;
-use register::StorageBox;
+use register::Register;
 
 mod begin;
 mod deliver;
@@ -16,19 +16,23 @@ mod stop;
 
 pub use kinds::change;
 pub use places::box_place;
+pub use places::department_in;
 pub use places::row_place;
 pub use places::station_place;
 
-// The parts of a floor that one step looks at, and all that it can change. `next` is the row that a begin takes, 64 or above where there
-// is none; no step but a begin looks at it.
+// The parts of a floor that one step looks at, and all that it can change: of a department's things those of its own department. `first`
+// is the department's first row, `used` how many of its rows are in use, `highest` its highest rank begun, and `register` the box's
+// record for it. `next` is the row that a begin takes, 128 or above where there is none; no step but a begin looks at it.
 pub struct Parts {
     pub n: u8,
     pub m: u8,
+    pub first: u8,
     pub used: u8,
     pub next: u8,
     pub highest: u32,
     pub row: Row,
-    pub storage: StorageBox,
+    pub register: Register,
+    pub stopped: bool,
     pub station: Station,
 }
 
@@ -41,23 +45,27 @@ pub struct Changed {
 pub fn gathered(
     n: u8,
     m: u8,
+    first: u8,
     used: u8,
     next: u8,
     highest: u32,
     row: Row,
-    storage: StorageBox,
+    register: Register,
+    stopped: bool,
     station: Station,
 ) -> Parts
-    ensures { λ r. ⌜ r ≡ record { n = n; m = m; used = used; next = next; highest = highest; row = row; storage = storage; station = station } ⌝ }
+    ensures { λ r. ⌜ r ≡ record { n = n; m = m; first = first; used = used; next = next; highest = highest; row = row; register = register; stopped = stopped; station = station } ⌝ }
 {
     Parts {
         n,
         m,
+        first,
         used,
         next,
         highest,
         row,
-        storage,
+        register,
+        stopped,
         station,
     }
 }

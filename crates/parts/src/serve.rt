@@ -4,19 +4,17 @@ ghost use Rattle.parts.specs.Parts.{serveIn, served};
 use crate::Changed;
 use crate::Parts;
 use commands::Outcome;
-use register::StorageBox;
 use requests::Phase;
 
 pub(crate) fn serve_refusal(x: Parts, p: Phase, a: u8, b: u8) -> u8
     ensures { λ r. ⌜ r ≡ serveIn x p a b ⌝ }
 {
-    let storage = x.storage;
     let w = x.row;
-    let unknown = super::places::unknown(x.used, x.n, a, b);
+    let unknown = super::places::unknown(x.first, x.used, x.n, a, b);
     if unknown {
         return 8;
     }
-    if storage.stopped {
+    if x.stopped {
         return 13;
     }
     if !attempts::waits(w, p, b) {
@@ -28,19 +26,14 @@ pub(crate) fn serve_refusal(x: Parts, p: Phase, a: u8, b: u8) -> u8
 pub(crate) fn serve(x: Parts, p: Phase, a: u8, b: u8) -> Changed
     ensures { λ r. ⌜ r ≡ served x p a b ⌝ }
 {
-    let old = x.storage;
-    let held = old.register;
+    let held = x.register;
     let w = x.row;
     let done = attempts::serve(w, held, p, b);
     let row = done.row;
     let after = done.register;
     let mut y = x;
     y.row = row;
-    let storage = StorageBox {
-        register: after,
-        stopped: old.stopped,
-    };
-    y.storage = storage;
+    y.register = after;
     Changed {
         parts: y,
         outcome: Outcome::Served(a),

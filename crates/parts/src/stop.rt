@@ -8,11 +8,10 @@ use commands::Outcome;
 pub(crate) fn stop_refusal(x: Parts, b: u8) -> u8
     ensures { λ r. ⌜ r ≡ stopIn x b ⌝ }
 {
-    let storage = x.storage;
     if x.n <= b {
         return 8;
     }
-    if storage.stopped {
+    if x.stopped {
         return 13;
     }
     0
@@ -21,10 +20,8 @@ pub(crate) fn stop_refusal(x: Parts, b: u8) -> u8
 pub(crate) fn stop(x: Parts, b: u8) -> Changed
     ensures { λ r. ⌜ r ≡ stoppedBox x b ⌝ }
 {
-    let mut storage = x.storage;
-    storage.stopped = true;
     let mut y = x;
-    y.storage = storage;
+    y.stopped = true;
     Changed {
         parts: y,
         outcome: Outcome::Stopped(b),

@@ -2,17 +2,30 @@
 ghost use mathlib.Core.Path.{_≡_};
 ghost use Rattle.floor.specs.Floors.{newFloorOf};
 ghost use Rattle.floor.specs.Runs.{playedIn};
-ghost use Rattle.player.specs.Play.{playedOf, lastRank};
+ghost use Prim.Native.Nat.{_≤_};
+ghost use Rattle.player.specs.Play.{toldFrom, playedOf, lastRank};
 use drill_file::Header;
 use floor::Played;
 
-// Plays records on the new floor of n boxes and m stations.
-fn play_records(n: u8, m: u8, records: &[u8]) -> Played
-    ensures { λ r. ⌜ r ≡ playedIn (newFloorOf n m .floor) (now (records .entry)) ⌝ }
+// Plays records on the new floor of n boxes and m stations, with the department bytes given.
+fn play_records(n: u8, m: u8, departments: &[u8], records: &[u8]) -> Played
+    ensures { λ r. ⌜ r ≡ playedIn (newFloorOf n m (now (departments .entry)) .floor) (now (records .entry)) ⌝ }
 {
-    let made = floor::new_floor(n, m);
+    let made = floor::new_floor(n, m, departments);
     let start = made.floor;
     floor::run(start, records)
+}
+
+// The same with the department bytes of a file: where it has none all m stations are sails.
+fn play_told(n: u8, m: u8, told: &[u8], records: &[u8]) -> Played
+    requires { ⌜ m ≤ 16 ⌝ }
+    ensures { λ r. ⌜ r ≡ playedIn (newFloorOf n m (toldFrom m (now (told .entry))) .floor) (now (records .entry)) ⌝ }
+{
+    if told.len() == 0 {
+        let sails = [0u8; 16];
+        return play_records(n, m, &sails[..m as usize], records);
+    }
+    play_records(n, m, told, records)
 }
 
 // Plays a file of any bytes.
@@ -22,7 +35,7 @@ pub fn play(file: &[u8]) -> Played
     let header = drill_file::read_header(file);
     match header {
         Header::Refused(k) => {
-            let made = floor::new_floor(1, 1);
+            let made = floor::new_floor(1, 1, &[0]);
             let floor = made.floor;
             Played {
                 floor,
@@ -30,7 +43,12 @@ pub fn play(file: &[u8]) -> Played
                 refusal: k,
             }
         }
-        Header::Accepted { n, m, start, .. } => play_records(n, m, &file[start..]),
+        Header::Accepted { n, m, start, .. } => play_told(
+            n,
+            m,
+            drill_file::departments(file),
+            &file[start..],
+        ),
     }
 }
 

@@ -1,2 +1,3 @@
+pub mod DepartmentLaws
 pub mod RegisterLaws
 pub mod Claims

@@ -1,9 +1,11 @@
 -- Document 01, "The box routine (Figure 3)", and wish 2 of document 02: one ranked register, its read and its write; and the box that
--- keeps it.
+-- keeps one for each department (wish 6).
 use Prim.Native.Nat.{ℕ, max}
 use mathlib.Core.Bool.{Bool, true, false}
 use lib.Dec.{eqb, leb, ltb}
 use Rattle.base.specs.Choice.{if_then_else_}
+use Rattle.register.specs.declared.Department.{Department}
+use Rattle.register.specs.declared.Department.the-variants.{Sails, Canvas}
 use Rattle.register.specs.declared.Register.{Register}
 use Rattle.register.specs.declared.StorageBox.{StorageBox}
 use Rattle.register.specs.declared.ReadAnswer.{ReadAnswer}
@@ -11,14 +13,34 @@ use Rattle.register.specs.declared.ReadAnswer.the-variants.{Held, Outran
 use Rattle.register.specs.declared.ReadDone.{ReadDone}
 use Rattle.register.specs.declared.WriteDone.{WriteDone}
 
--- "A box keeps a read rank, a write rank and a value, 32 bits each, all 0 at first, and whether it has stopped." It is also what a
--- read past the end of an array gives by the language's own rule.
-abbrev pub box0 : StorageBox
-box0 = record { register = record { read = 0; write = 0; value = 0 }; stopped = false }
+-- of two things, the one that belongs to the department
+abbrev pub ofDepartment : {A : Type 0} (department : Department) (sails canvas : A) → A
+ofDepartment Sails sails canvas = sails
+ofDepartment Canvas sails canvas = canvas
 
--- the box x with another register
-abbrev pub withRegister : (x : StorageBox) (register : Register) → StorageBox
-withRegister x register = record { register = register; stopped = x .stopped }
+-- whether two departments are the same
+abbrev pub isOf : (department other : Department) → Bool
+isOf Sails Sails = true
+isOf Sails Canvas = false
+isOf Canvas Sails = false
+isOf Canvas Canvas = true
+
+-- "A box keeps a read rank, a write rank and a value, 32 bits each, all 0 at first, and whether it has stopped." Wish 6 of document 02:
+-- "Each box keeps one record a department". It is also what a read past the end of an array gives by the language's own rule.
+abbrev pub register0 : Register
+register0 = record { read = 0; write = 0; value = 0 }
+
+abbrev pub box0 : StorageBox
+box0 = record { sails = register0; canvas = register0; stopped = false }
+
+-- the record of the department
+abbrev pub registerOf : (department : Department) (x : StorageBox) → Register
+registerOf department x = ofDepartment department (x .sails) (x .canvas)
+
+-- the box x with the record of the department and whether it has stopped replaced: the record of the other stays
+abbrev pub boxWith : (department : Department) (x : StorageBox) (register : Register) (stopped : Bool) → StorageBox
+boxWith department x register stopped =
+    record { sails = ofDepartment department register (x .sails); canvas = ofDepartment department (x .canvas) register; stopped = stopped }
 
 -- Wish 2: "A box with a read or write rank above r". Equal ranks are not above.
 unfoldable pub outranks : (x : Register) (rank : ℕ) → Bool

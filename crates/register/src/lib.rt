@@ -1,7 +1,13 @@
 // The ranked register of one box, by value: Figure 3 of the paper, as document 01's section "The box routine" and wish 2 of document 02
 // read it.
 ghost use mathlib.Core.Path.{_≡_};
-ghost use Rattle.register.specs.Register.{outranks, isHeld, rankIn, valueIn, takes, rmwRead, rmwWrite};
+ghost use Rattle.register.specs.Register.{registerOf, boxWith, outranks, isHeld, rankIn, valueIn, takes, rmwRead, rmwWrite};
+
+// A department of the loft (wish 6 of document 02): each has a record of its own in every box.
+pub enum Department {
+    Sails,
+    Canvas,
+}
 
 // What a box keeps: Figure 3's x, with rR (read), wR (write) and val (value). All are 0 at first.
 pub struct Register {
@@ -10,9 +16,10 @@ pub struct Register {
     pub value: u32,
 }
 
-// A box: its ranked register and whether it has stopped.
+// A box: a ranked register for each department, and whether it has stopped, which both share.
 pub struct StorageBox {
-    pub register: Register,
+    pub sails: Register,
+    pub canvas: Register,
     pub stopped: bool,
 }
 
@@ -32,6 +39,34 @@ pub struct ReadDone {
 pub struct WriteDone {
     pub register: Register,
     pub taken: bool,
+}
+
+// The register that a box keeps for the department.
+pub fn register_of(x: StorageBox, d: Department) -> Register
+    ensures { λ y. ⌜ y ≡ registerOf d x ⌝ }
+{
+    match d {
+        Department::Sails => x.sails,
+        Department::Canvas => x.canvas,
+    }
+}
+
+// The box with the department's register stored, and whether it has stopped; the other department's register stays.
+pub fn box_with(x: StorageBox, d: Department, register: Register, stopped: bool) -> StorageBox
+    ensures { λ y. ⌜ y ≡ boxWith d x register stopped ⌝ }
+{
+    let mut y = x;
+    y.stopped = stopped;
+    match d {
+        Department::Sails => {
+            y.sails = register;
+            y
+        }
+        Department::Canvas => {
+            y.canvas = register;
+            y
+        }
+    }
 }
 
 // Whether the read rank or the write rank is above this one.

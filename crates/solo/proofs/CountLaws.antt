@@ -31,5 +31,5 @@ unfolding soloOf
 solo-counted f s v = by-test (Counted f (planOf f s v)) _ _ _ (λ _. run-counted f _ _) (λ _. back-counted f _ _)
 
 -- the steps of at most 9 boxes' plan fit a byte
-pub run-short : (f : Floor) (s v : ℕ) (x : Ran) → Sound f → x ≡ runOf End f (beginOf f s v) (exchangesOf f) → x .accepted ≤ 37
-run-short f s v x z e = rw e (omega (arith, run-ran End f (beginOf f s v) (exchangesOf f) .within, plan-most f s v, z .box-most))
+pub run-short : (f : Floor) (s v : ℕ) (x : Ran) → Sound f → x ≡ runOf End f (beginOf f s v) (exchangesOf f s) → x .accepted ≤ 37
+run-short f s v x z e = rw e (omega (arith, run-ran End f (beginOf f s v) (exchangesOf f s) .within, plan-most f s v, z .box-most))

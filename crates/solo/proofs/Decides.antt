@@ -24,10 +24,9 @@ use Rattle.attempts.specs.Rows.{newRow}
 use Rattle.attempts.specs.Stations.{isGone, isBusy}
 use Rattle.attempts.specs.declared.Station.{Station}
 use Rattle.attempts.specs.declared.Row.{Row}
-use Rattle.floor.specs.Floors.{boxAt, rowAt}
-use Rattle.floor.specs.Effects.{stepped, afterBegin}
-use Rattle.floor.specs.Free.{nextRow}
-use Rattle.floor.proofs.FreeLaws.{next-in}
+use Rattle.floor.specs.Floors.{rowAt, registerAt, departmentAt}
+use Rattle.floor.specs.Effects.{rowTaken, stepped, afterBegin}
+use Rattle.floor.proofs.FreeLaws.{next-own}
 use Rattle.floor.specs.Step.{refused, applyOf}
 use Rattle.floor.specs.Runs.{stopsAt, runFrom, runOf}
 use Rattle.floor.specs.Claims.{CanBegin, Sound, Lengths}
@@ -37,7 +36,7 @@ use Rattle.floor.specs.declared.Until.the-variants.{End}
 use Rattle.floor.proofs.SoundLaws.{sound-holds}
 use Rattle.floor.proofs.StepCases.{StepCase, turned, began, apply-case}
 use Rattle.floor.proofs.Accepts.{begin-accepted}
-use Rattle.floor.proofs.Keeps.{apply-keeps, apply-lengths, row-stored, station-stored}
+use Rattle.floor.proofs.Keeps.{apply-keeps, apply-lengths, row-stored, station-stored, taken-use}
 use Rattle.solo.specs.Plan.{highestBegun, roundOf, answeringFrom, answering, lowest, askedOf, exchanges, beginOf, exchangesOf}
 use Rattle.solo.specs.Solo.{soloRefusal, turnedAway, ofRun, soloOf}
 use Rattle.solo.specs.Claims.{Lawful, Ready, DecidesAlone, Ends, decided, aborted, outranked}
@@ -65,21 +64,21 @@ take-ascends t (suc q) p (b ∷ bs) u = (u .0, u .1, u .2, take-ascends t q (b +
 
 -- a begin that is accepted, with q boxes that answer: the whole run
 module _ (f : Floor) (s v : ℕ) (highest : Bool) (z : Sound f) (l : Lengths f) (can : CanBegin f s (roundOf f s) v) (enough : quorum (f .n) ≤ length (answering f))
-    (low : (b : ℕ) → highest ≡ true → (boxAt f b .register .read ≤ rankOf (roundOf f s) s) × (boxAt f b .register .write < rankOf (roundOf f s) s)) where
+    (low : (b : ℕ) → highest ≡ true → (registerAt f (departmentAt f s) b .read ≤ rankOf (roundOf f s) s) × (registerAt f (departmentAt f s) b .write < rankOf (roundOf f s) s)) where
   abbrev round : ℕ
   round = roundOf f s
 
   abbrev attempt : Attempt
-  attempt = record { n = f .n; number = nextRow f; station = s; rank = rankOf round s; boxes = f .boxes; highest = highest }
+  attempt = record { n = f .n; number = rowTaken f s; station = s; rank = rankOf round s; boxes = f .boxes; highest = highest }
 
   abbrev begunFloor : Floor
   begunFloor = afterBegin f s round v
 
-  begins : applyOf f (Begin s round v) ≡ stepped begunFloor (Begun (nextRow f))
+  begins : applyOf f (Begin s round v) ≡ stepped begunFloor (Begun (rowTaken f s))
   begins = begin-accepted f z s round v can
 
-  new-row : rowAt begunFloor (nextRow f) ≡ newRow (f .n) s round v
-  new-row = row-stored f l z (nextRow f) (newRow (f .n) s round v) (can .row)
+  new-row : rowAt begunFloor (rowTaken f s) ≡ newRow (f .n) s round v
+  new-row = row-stored f l z (rowTaken f s) (newRow (f .n) s round v) (can .row)
 
   begun-driven : Driven attempt Read 0 begunFloor
   unfolding newRow
@@ -87,32 +86,32 @@ module _ (f : Floor) (s v : ℕ) (highest : Bool) (z : Sound f) (l : Lengths f) 
     sound = subst (λ (x : Stepped). Sound (x .floor)) begins (apply-keeps f (Begin s round v) z);
     lengths = subst (λ (x : Stepped). Lengths (x .floor)) begins (apply-lengths f (Begin s round v) l);
     size = refl;
-    begun = next-in f (can .row);
+    begun = taken-use f s round v (can .row);
     owner = ap (λ (w : Row). w .station) new-row;
     rank = ap (λ (w : Row). w .rank) new-row;
-    boxes = λ j. record { stopped = refl; read = λ i. low j i .0; write = λ i _. low j i .1 };
+    boxes = λ j. let own = next-own f (departmentAt f s) (can .row) in record { stopped = refl; read = λ i. rw own (low j i .0); write = λ i _. rw own (low j i .1) };
     state = ap (λ (x : Station). x .state) (station-stored f l z s _ (can .station));
   }
 
-  begun-reads : RequestsAt attempt 0 0 (rowAt begunFloor (nextRow f) .read)
+  begun-reads : RequestsAt attempt 0 0 (rowAt begunFloor (rowTaken f s) .read)
   unfolding newRow
   begun-reads = rw new-row (all-wait (f .n) _ _ (λ j h. ap (λ (x : Slot). x .stage) (wait-below (f .n) (z .box-most) j h)))
 
-  rest-driven : (bs : List ℕ) → length bs ≡ quorum (f .n) → Ascending attempt 0 bs → Leads attempt 1 begunFloor (exchanges Read (nextRow f) bs ++ exchanges Write (nextRow f) bs)
+  rest-driven : (bs : List ℕ) → length bs ≡ quorum (f .n) → Ascending attempt 0 bs → Leads attempt 1 begunFloor (exchanges Read (rowTaken f s) bs ++ exchanges Write (rowTaken f s) bs)
   rest-driven [] h u = absurd (omega arith)
   rest-driven (b ∷ bs) h u = both-driven attempt bs b h u begunFloor (record { floor = begun-driven; requests = begun-reads })
 
-  run-ends : AtEnd attempt (runOf End f (beginOf f s v) (exchangesOf f))
+  run-ends : AtEnd attempt (runOf End f (beginOf f s v) (exchangesOf f s))
   unfolding exchangesOf lowest stopsAt if_then_else_
   run-ends =
-      step-on attempt 0 f begunFloor (Begin s round v) (Begun (nextRow f)) begins _ refl
+      step-on attempt 0 f begunFloor (Begin s round v) (Begun (rowTaken f s)) begins _ refl
       (rest-driven (askedOf f) (length-take-le (quorum (f .n)) (answering f) enough)
       (take-ascends attempt (quorum (f .n)) 0 (answering f) (answering-ascends attempt (f .n) 0 0 (omega arith) (omega arith))))
 
 -- on a lawful floor the rank of the round picked passes every rank that a box has served, and every round that the station has begun
 module _ (f : Floor) (s v : ℕ) (y : Lawful f) (x : Ready f s v) where
-  passes : highestBegun f < rankOf (roundOf f s) s
-  passes = round-passes (highestBegun f) s
+  passes : highestBegun f s < rankOf (roundOf f s) s
+  passes = round-passes (highestBegun f s) s
 
   can-begin : CanBegin f s (roundOf f s) v
   can-begin = record {
@@ -120,7 +119,7 @@ module _ (f : Floor) (s v : ℕ) (y : Lawful f) (x : Ready f s v) where
     here = ap isGone (x .idle);
     free = ap isBusy (x .idle);
     offer = x .offer;
-    later = elim (y .last s) [ inl e ↦ omega (arith, e, round-some (highestBegun f) s) | inr h ↦ omega (arith, h, passes) ];
+    later = elim (y .last s) [ inl e ↦ omega (arith, e, round-some (highestBegun f s) s) | inr h ↦ omega (arith, h, passes) ];
     row = x .row;
   }
 
@@ -139,7 +138,7 @@ module _ (f : Floor) (s v : ℕ) (y : Lawful f) (x : Ready f s v) where
   pub solo-decides : DecidesAlone f (soloOf f s v)
   solo-decides =
       let a = run-ends f s v true (y .sound) (y .lengths) can-begin (x .boxes)
-      (λ b _. (omega (arith, y .read b, passes), omega (arith, y .write b, passes))) in
+      (λ b _. (omega (arith, y .read (departmentAt f s) b, passes), omega (arith, y .write (departmentAt f s) b, passes))) in
       rw (solo-driven f s v no-refusal) (decides _ refl refl refl refl a)
 
 -- On any floor whose arrays have the lengths of their types: the begin is turned back, or the attempt is driven to its end.
@@ -152,20 +151,20 @@ module _ (f : Floor) (s v : ℕ) (l : Lengths f) where
   run-back k [] e = rw (decode-encode begin, e)
   run-back k (r ∷ rs) e = rw (decode-encode begin, e)
 
-  ended : {t : Attempt} {o : Outcome} {k : ℕ} (d : Solo) → t .n ≡ f .n → t .number ≡ nextRow f → d .outcome ≡ o → d .steps ≡ k → Over t o k → Ends f d
+  ended : {t : Attempt} {o : Outcome} {k : ℕ} (d : Solo) → t .n ≡ f .n → t .number ≡ rowTaken f s → d .outcome ≡ o → d .steps ≡ k → Over t o k → Ends f s d
   ended d z y e n (has-decided v) = decided v e (rw z at n)
   ended d z y e n (has-aborted u) = aborted (e ∙ ap Aborted y) (rw z at n)
   ended d z y e n (was-outranked u k l m) = outranked k l (rw z at m) (e ∙ ap Aborted y) n
 
   begun-or-back : {x : Stepped} → quorum (f .n) ≤ length (answering f) → applyOf f begin ≡ x → StepCase f begin x
-      → Ends f (ofRun (runOf End f (beginOf f s v) (exchangesOf f)))
-  begun-or-back q e (turned k t) = claims.turned k (run-back k (exchangesOf f) e)
+      → Ends f s (ofRun (runOf End f (beginOf f s v) (exchangesOf f s)))
+  begun-or-back q e (turned k t) = claims.turned k (run-back k (exchangesOf f s) e)
   begun-or-back q e (began z c) =
       let a = run-ends f s v false z l c q (λ b i. clash i refl) in
       ended _ refl refl refl refl a
 
   -- it is turned back with 0 steps, or takes 4q + 1 steps and decides or aborts, or is outranked at a read and aborts there
-  pub solo-ends : Ends f (soloOf f s v)
+  pub solo-ends : Ends f s (soloOf f s v)
   solo-ends = elim (ℕ-discrete (soloRefusal f s v) 0) [
     | yes e ↦ rw (solo-driven f s v e) (begun-or-back (front-means f s v (roundOf f s) (refusal-zero f s v e) .boxes) refl (apply-case f begin))
     | no e ↦ claims.turned (soloRefusal f s v) (solo-refused f s v e)

@@ -11,7 +11,9 @@ use lib.ListN.{length, getD, set}
 use lib.Seq.{getD-set-other}
 use Rattle.base.specs.Numbers.{quorum}
 use Rattle.base.specs.Mask.{countBelow}
-use Rattle.register.specs.Register.{isHeld, rmwRead, rmwWrite, box0, withRegister}
+use Rattle.register.specs.Register.{registerOf, boxWith, isHeld, rmwRead, rmwWrite, box0}
+use Rattle.register.specs.declared.Department.{Department}
+use Rattle.register.proofs.DepartmentLaws.{box-own}
 use Rattle.register.proofs.RegisterLaws.{ReadCase, outranked, answered, read-case, takes-both, write-answers, write-keeps-read}
 use Rattle.register.specs.declared.Register.{Register}
 use Rattle.register.specs.declared.ReadDone.{ReadDone}
@@ -24,8 +26,9 @@ use Rattle.requests.specs.declared.Phase.the-variants.{Read, Write}
 use Rattle.requests.specs.declared.Slot.{Slot}
 use Rattle.requests.specs.declared.Requests.{Requests}
 use Rattle.requests.specs.declared.Verdict.the-variants.{No}
-use Rattle.attempts.specs.Rows.{row0, requestsOf, issued, revisionOf, rowServed, registerServed, requestsHeard}
-use Rattle.floor.specs.Floors.{boxAt, stationAt, rowAt, ownerAt, withRow}
+use Rattle.attempts.specs.Rows.{row0, rowDepartment, requestsOf, issued, revisionOf, rowServed, registerServed, requestsHeard}
+use Rattle.floor.specs.Floors.{boxAt, stationAt, rowAt, ownerAt, InUse, withRow}
+use Rattle.floor.proofs.UseLaws.{in-use-most}
 use Rattle.attempts.specs.Stations.{isIn}
 use Rattle.floor.specs.Claims.{Sound, Lengths, CanDeliver}
 use Rattle.floor.specs.Effects.{heardRow, stepped, afterServe, afterIssue, afterDecision, afterAbort, verdictOn}
@@ -48,7 +51,7 @@ use Rattle.commands.specs.declared.Command.the-variants.{Serve, Deliver}
 use Rattle.solo.proofs.PhaseRequests.{Waits, Sent, all-wait, one-sent, one-heard}
 
 -- The attempt that is driven, with the n boxes as they were handed in. `highest` says that its rank is above every rank that a box
--- had served: so it is on a lawful floor, and on one built by hand it need not be.
+-- had served for its department: so it is on a lawful floor, and on one built by hand it need not be.
 pub record Attempt : Type 0 where
   pub n : ℕ
   pub number : ℕ
@@ -57,12 +60,19 @@ pub record Attempt : Type 0 where
   pub boxes : List StorageBox
   pub highest : Bool
 
+-- the attempt's department, and the record of a box for it
+abbrev pub ownOf : (t : Attempt) → Department
+ownOf t = rowDepartment (t .number)
+
+abbrev pub heldBy : (t : Attempt) (x : StorageBox) → Register
+heldBy t x = registerOf (ownOf t) x
+
 -- a box has stopped where it had; where the attempt's rank is the highest, the box has served no higher one, and from box p on it
 -- has not served the attempt's write
 pub record BoxOk (t : Attempt) (p j : ℕ) (x : StorageBox) : Type 0 where
   pub stopped : x .stopped ≡ getD (t .boxes) j box0 .stopped
-  pub read : t .highest ≡ true → x .register .read ≤ t .rank
-  pub write : t .highest ≡ true → p ≤ j → x .register .write < t .rank
+  pub read : t .highest ≡ true → heldBy t x .read ≤ t .rank
+  pub write : t .highest ≡ true → p ≤ j → heldBy t x .write < t .rank
 
 -- what a station in a phase is, and the boxes from where on none was asked for the write
 abbrev pub stateIn : Phase → ℕ → State
@@ -77,7 +87,7 @@ pub record Driven (t : Attempt) (f : Phase) (p : ℕ) (g : Floor) : Type 0 where
   pub sound : Sound g
   pub lengths : Lengths g
   pub size : g .n ≡ t .n
-  pub begun : t .number < g .used
+  pub begun : InUse g (t .number)
   pub owner : rowAt g (t .number) .station ≡ t .station
   pub rank : rowAt g (t .number) .rank ≡ t .rank
   pub boxes : (j : ℕ) → BoxOk t (askedBelow f p) j (boxAt g j)
@@ -99,7 +109,7 @@ driven-on {t} {g = g} c x d e o b s =
       sound = subst (λ (y : Stepped). Sound (y .floor)) e (apply-keeps g c (d .sound));
       lengths = subst (λ (y : Stepped). Lengths (y .floor)) e (apply-lengths g c (d .lengths));
       size = ap (λ (y : Stepped). y .floor .n) (sym e) ∙ apply-sizes g c .boxes ∙ d .size;
-      begun = subst (λ (y : Stepped). t .number < y .floor .used) e (used-stays g c (t .number) (d .begun));
+      begun = subst (λ (y : Stepped). InUse (y .floor) (t .number)) e (used-stays g c (t .number) (d .begun));
       owner = ap (λ (y : Stepped). rowAt (y .floor) (t .number) .station) (sym e) ∙ r .station ∙ d .owner;
       rank = ap (λ (y : Stepped). rowAt (y .floor) (t .number) .rank) (sym e) ∙ r .rank ∙ d .rank;
       boxes = b;
@@ -114,8 +124,8 @@ module _ {t : Attempt} {f : Phase} {p : ℕ} {g : Floor} (d : Driven t f p g) wh
   owner-state : ownerAt g (t .number) .state ≡ stateIn f (t .number)
   owner-state = ap (λ (i : ℕ). stationAt g i .state) (d .owner) ∙ d .state
 
-  in-row : t .number < 64
-  in-row = omega (arith, d .begun, d .sound .rows-most)
+  in-row : t .number < 128
+  in-row = in-use-most g (d .sound) (t .number) (d .begun)
 
 -- an answer before the q-th
 before-quorum : (h : Requests) (n : ℕ) → countBelow (h .heard) n < quorum n → atQuorum h n ≡ false
@@ -129,32 +139,42 @@ in-holds Write a = writing-holds a
 -- A box that serves a read has served no higher rank than before, or the attempt's own. One that has served no higher rank answers it, and
 -- takes the write where it has not served that.
 
-box-read : {t : Attempt} {p b r : ℕ} {x : StorageBox} {d : ReadDone} → r ≡ t .rank → BoxOk t p b x → ReadCase (x .register) r d → BoxOk t p b (withRegister x (d .register))
-box-read e o (outranked h) = o
-box-read {t} e o (answered h k) = record { stopped = o .stopped; read = λ i. rw e (le-refl (t .rank)); write = o .write }
+-- the box with the record that the routine left for the attempt's department
+abbrev withHeld : (t : Attempt) (x : StorageBox) (r : Register) → StorageBox
+withHeld t x r = boxWith (ownOf t) x r (x .stopped)
+
+held-ok : (t : Attempt) {p b : ℕ} (x : StorageBox) (r : Register) → x .stopped ≡ getD (t .boxes) b box0 .stopped → (t .highest ≡ true → r .read ≤ t .rank)
+    → (t .highest ≡ true → p ≤ b → r .write < t .rank) → BoxOk t p b (withHeld t x r)
+held-ok t x r s h k =
+    let e = box-own (ownOf t) x r (x .stopped) in
+    record { stopped = s; read = λ i. rw e (h i); write = λ i u. rw e (k i u) }
+
+box-read : {t : Attempt} {p b r : ℕ} {x : StorageBox} {d : ReadDone} → r ≡ t .rank → BoxOk t p b x → ReadCase (heldBy t x) r d → BoxOk t p b (withHeld t x (d .register))
+box-read {t} {x = x} e o (outranked h) = held-ok t x (heldBy t x) (o .stopped) (o .read) (o .write)
+box-read {t} {x = x} e o (answered h k) = held-ok t x _ (o .stopped) (λ i. rw e (le-refl (t .rank))) (o .write)
 
 read-answers : {r : ℕ} {x : Register} {d : ReadDone} → x .read ≤ r → x .write ≤ r → ReadCase x r d → isHeld (d .answer) ≡ true
 read-answers h k (outranked (inl e)) = absurd (omega arith)
 read-answers h k (outranked (inr e)) = absurd (omega arith)
 read-answers h k (answered _ _) = refl
 
-box-answers : {t : Attempt} {b : ℕ} {x : StorageBox} (r : ℕ) → r ≡ t .rank → BoxOk t 0 b x → t .highest ≡ true → isHeld (rmwRead (x .register) r .answer) ≡ true
-box-answers {x = x} r e o i = read-answers (rw e (o .read i)) (omega (arith, e, o .write i (omega arith))) (read-case (x .register) r)
+box-answers : {t : Attempt} {b : ℕ} {x : StorageBox} (r : ℕ) → r ≡ t .rank → BoxOk t 0 b x → t .highest ≡ true → isHeld (rmwRead (heldBy t x) r .answer) ≡ true
+box-answers {t} {x = x} r e o i = read-answers (rw e (o .read i)) (omega (arith, e, o .write i (omega arith))) (read-case (heldBy t x) r)
 
-box-written : {t : Attempt} {p b : ℕ} {x : StorageBox} (r v : ℕ) → BoxOk t p b x → BoxOk t (b + 1) b (withRegister x (rmwWrite (x .register) r v .register))
-box-written {x = x} r v o = record { stopped = o .stopped; read = λ i. rw (write-keeps-read (x .register) r v) (o .read i); write = λ i u. absurd (omega arith) }
+box-written : {t : Attempt} {p b : ℕ} {x : StorageBox} (r v : ℕ) → BoxOk t p b x → BoxOk t (b + 1) b (withHeld t x (rmwWrite (heldBy t x) r v .register))
+box-written {t} {x = x} r v o = held-ok t x _ (o .stopped) (λ i. rw (write-keeps-read (heldBy t x) r v) (o .read i)) (λ i u. absurd (omega arith))
 
 box-served : {t : Attempt} {b : ℕ} {x : StorageBox} (p : ℕ) (f : Phase) (w : Row) → w .rank ≡ t .rank → BoxOk t (askedBelow f p) b x
-    → BoxOk t (askedBelow f (b + 1)) b (withRegister x (registerServed f w (x .register)))
-box-served {x = x} p Read w e o = box-read e o (read-case (x .register) (w .rank))
+    → BoxOk t (askedBelow f (b + 1)) b (withHeld t x (registerServed f w (heldBy t x)))
+box-served {t} {x = x} p Read w e o = box-read e o (read-case (heldBy t x) (w .rank))
 box-served p Write w e o = box-written (w .rank) (w .written) o
 
 box-later : {t : Attempt} {p b j : ℕ} {x : StorageBox} (f : Phase) → p ≤ b → BoxOk t (askedBelow f p) j x → BoxOk t (askedBelow f (b + 1)) j x
 box-later Read l o = o
 box-later Write l o = record { stopped = o .stopped; read = o .read; write = λ i u. o .write i (omega arith) }
 
-box-takes : {t : Attempt} {p b : ℕ} {x : StorageBox} (r v : ℕ) → r ≡ t .rank → p ≤ b → BoxOk t p b x → t .highest ≡ true → rmwWrite (x .register) r v .taken ≡ true
-box-takes {x = x} r v e l o i = write-answers (x .register) r v ∙ takes-both (x .register) r (rw e (o .read i)) (rw e (o .write i l))
+box-takes : {t : Attempt} {p b : ℕ} {x : StorageBox} (r v : ℕ) → r ≡ t .rank → p ≤ b → BoxOk t p b x → t .highest ≡ true → rmwWrite (heldBy t x) r v .taken ≡ true
+box-takes {t} {x = x} r v e l o i = write-answers (heldBy t x) r v ∙ takes-both (heldBy t x) r (rw e (o .read i)) (rw e (o .write i l))
 
 -- requests of a phase of which box b has served, with a yes where the attempt's rank is the highest
 one-served : (t : Attempt) (x : Requests) (ok : Bool) {p b k : ℕ} → RequestsAt t p k x → p ≤ b → b < t .n → b < length (x .slots)
@@ -168,7 +188,7 @@ one-served t x ok {b = b} r l h i y =
 -- what the box answers, where the attempt's rank is the highest: yes
 module _ {t : Attempt} {p b : ℕ} {x : StorageBox} (w : Row) (e : w .rank ≡ t .rank) (l : p ≤ b) where
   requests-sent : (f : Phase) {k : ℕ} → BoxOk t (askedBelow f p) b x → b < t .n → b < length (requestsOf f w .slots) → RequestsAt t p k (requestsOf f w)
-      → RequestsSent t b k (requestsOf f (rowServed f w (x .register) b))
+      → RequestsSent t b k (requestsOf f (rowServed f w (heldBy t x) b))
   requests-sent Read o h i r = one-served t (w .read) _ r l h i (λ u. box-answers (w .rank) e o u)
   requests-sent Write o h i r = one-served t (w .write) _ r l h i (λ u. box-takes (w .rank) (w .written) e l o u)
 

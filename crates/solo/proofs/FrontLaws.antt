@@ -12,7 +12,7 @@ use Rattle.attempts.specs.Stations.{isGone, isBusy}
 use Rattle.floor.specs.Floors.{stationAt}
 use Rattle.floor.specs.Sound.{soundOf}
 use Rattle.floor.specs.Runs.{runOf}
-use Rattle.floor.specs.Free.{nextRow}
+use Rattle.floor.specs.Effects.{rowTaken}
 use Rattle.floor.specs.declared.Floor.{Floor}
 use Rattle.floor.specs.declared.Until.the-variants.{End}
 use Rattle.floor.proofs.RefusalLaws.{positive}
@@ -27,7 +27,7 @@ pub record MayFinish (f : Floor) (s v round : ℕ) : Type 0 where
   pub free : isBusy (stationAt f s .state) ≡ false
   pub offer : 0 < v
   pub left : round ≤ 65535
-  pub row : nextRow f < 64
+  pub row : rowTaken f s < 128
   pub boxes : quorum (f .n) ≤ length (answering f)
 
 module _ (f : Floor) (s v round : ℕ) where
@@ -64,7 +64,7 @@ module _ (f : Floor) (s v : ℕ) where
   unfolding soloOf
   solo-refused e = sym (on-false _ (ne-eqb _ _ e) refl)
 
-  pub solo-driven : soloRefusal f s v ≡ 0 → soloOf f s v ≡ ofRun (runOf End f (beginOf f s v) (exchangesOf f))
+  pub solo-driven : soloRefusal f s v ≡ 0 → soloOf f s v ≡ ofRun (runOf End f (beginOf f s v) (exchangesOf f s))
   unfolding soloOf
   solo-driven e = sym (on-true _ (eq-eqb _ _ e) refl)
 
@@ -103,5 +103,5 @@ module _ (f : Floor) (s v round k : ℕ) (r : Solo) (z : soundOf f ≡ true) (pi
   pub ends-refused : ¬ (k ≡ 0) → r ≡ turnedAway f k → r ≡ soloOf f s v
   ends-refused n e = e ∙ rw first (sym (solo-refused f s v (λ (o : soloRefusal f s v ≡ 0). n (first ∙ o))))
 
-  pub ends-driven : k ≡ 0 → r ≡ ofRun (runOf End f (beginOf f s v) (exchangesOf f)) → r ≡ soloOf f s v
+  pub ends-driven : k ≡ 0 → r ≡ ofRun (runOf End f (beginOf f s v) (exchangesOf f s)) → r ≡ soloOf f s v
   ends-driven o e = e ∙ sym (solo-driven f s v (sym first ∙ o))

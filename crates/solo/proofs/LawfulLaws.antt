@@ -1,103 +1,120 @@
 -- A new floor is lawful, and every step keeps a lawful floor lawful.
 use Prim.Native.Nat.{ℕ, zero, suc, _≤_, _<_}
 use native.Mathlib.Omega.{arith}
-use native.Mathlib.Decide.{ℕ-discrete}
-use mathlib.Core.Path.{_≡_, refl, sym, ap, subst, _∙_}
+use mathlib.Core.Path.{_≡_, refl, ap, subst, _∙_}
 use mathlib.Core.Logic.{inl, inr}
 use mathlib.Core.List.{List, []}
-use mathlib.Core.Bool.{true}
-use lib.ListN.{getD}
-use lib.Seq.{getD-set-other}
-use Rattle.base.specs.Numbers.{sizesRight, rankOf}
-use Rattle.base.proofs.Choices.{on-false, by-test}
-use Rattle.register.specs.Register.{box0}
-use Rattle.attempts.specs.Stations.{station0}
-use Rattle.attempts.specs.Rows.{row0, newRow}
-use Rattle.floor.specs.Floors.{rowAt, emptyFloor, newFloorOf}
-use Rattle.floor.specs.Free.{nextRow}
-use Rattle.floor.specs.Effects.{afterBegin}
-use Rattle.floor.proofs.FreeLaws.{next-other}
+use lib.ListN.{length, getD}
+use Rattle.base.specs.Numbers.{rankOf}
+use Rattle.register.specs.Register.{box0, registerOf}
+use Rattle.register.specs.declared.Department.{Department}
+use Rattle.register.specs.declared.Department.the-variants.{Sails, Canvas}
+use Rattle.attempts.specs.Rows.{newRow, rowDepartment}
+use Rattle.floor.specs.Claims.{Sound, Lengths}
+use Rattle.floor.specs.Floors.{rowAt, departmentAt, shareOf, highestOf, InUse, emptyFloor, newFloorOf}
+use Rattle.floor.specs.Effects.{rowTaken, shareAfter, afterBegin}
+use Rattle.floor.specs.declared.Share.{Share}
+use Rattle.floor.proofs.UseLaws.{share-own}
+use Rattle.floor.proofs.FreeLaws.{next-own}
 use Rattle.commands.specs.Commands.{commandOf}
 use Rattle.commands.specs.Outcomes.{isRefused, isBegun}
 use Rattle.floor.specs.Step.{applyOf, stepOf}
 use Rattle.floor.specs.Runs.{floorAt}
-use Rattle.base.proofs.Cases.{clash, by-cases}
+use Rattle.base.proofs.Cases.{clash}
 use Rattle.base.proofs.Stores.{getD-same}
 use Rattle.base.specs.Claims.{Sizes}
-use Rattle.base.proofs.SizeLaws.{sizes-mean}
 use Rattle.floor.proofs.StepCases.{StepCase, turned, began, served, heard, issued, decided, aborted, stopped, left, apply-case}
-use Rattle.floor.proofs.Keeps.{apply-keeps, apply-lengths, empty-sound, empty-lengths, row-stored}
+use Rattle.floor.proofs.Keeps.{apply-keeps, apply-lengths, empty-sound, empty-lengths, empty-unused, told-at, new-floor-by, row-stored}
 use Rattle.floor.proofs.BoxLaws.{box-grown}
-use Rattle.floor.proofs.RowLaws.{apply-used, apply-highest, row-same}
-use Rattle.floor.proofs.StationLaws.{last-from}
+use Rattle.floor.proofs.RowLaws.{apply-share, apply-in-use, row-same}
+use Rattle.floor.proofs.StationLaws.{last-from, department-stays}
 use Rattle.attempts.specs.declared.Row.{Row}
 use Rattle.attempts.specs.declared.Station.{Station}
 use Rattle.floor.specs.declared.Floor.{Floor}
-use Rattle.floor.specs.declared.NewFloor.{NewFloor}
 use Rattle.floor.specs.declared.Stepped.{Stepped}
 use Rattle.commands.specs.declared.Outcome.the-variants.{Begun}
 use Rattle.commands.specs.declared.Command.{Command}
 use Rattle.commands.specs.declared.Command.the-variants.{Begin}
-use Rattle.solo.specs.Plan.{highestBegun}
 use Rattle.solo.specs.Claims.{Lawful}
 
--- the rank begun is at most the highest
-begun-ranked : {f : Floor} {s round v : ℕ} {x : Stepped} → StepCase f (Begin s round v) x → x .outcome ≡ Begun (nextRow f) → rankOf round s ≤ highestBegun (x .floor)
-begun-ranked (turned k t) e = clash refl (ap isRefused e)
-begun-ranked (began z d) e = omega arith
+module _ (f : Floor) (s round v : ℕ) where
+  abbrev begunFloor : Floor
+  begunFloor = afterBegin f s round v
 
--- a begin: the row taken has its rank, and the other rows in use keep theirs
-begun-rows : {f : Floor} {c : Command} {x : Stepped} → StepCase f c x → isBegun (x .outcome) ≡ true → Lawful f → (a : ℕ) → a < x .floor .used
-    → rowAt (x .floor) a .rank ≤ highestBegun (x .floor)
-unfolding newRow
-begun-rows (turned k t) e y a h = clash e refl
-begun-rows {f} (began {s = s} {round = r} {v = v} z d) e y a h = elim (ℕ-discrete a (nextRow f)) [
-  | yes q ↦ omega (arith, ap (λ (i : ℕ). rowAt (afterBegin f s r v) i .rank) q, ap (λ (w : Row). w .rank) (row-stored f (y .lengths) z (nextRow f) (newRow (f .n) s r v) (d .row)))
-  | no q ↦ omega (arith, ap (λ (w : Row). w .rank) (getD-set-other (f .rows) (nextRow f) a (newRow (f .n) s r v) row0 q), y .rows a (next-other f a h q))
-]
-begun-rows (served z d) e y a h = clash e refl
-begun-rows (heard z d q) e y a h = clash e refl
-begun-rows (issued z d r q t) e y a h = clash e refl
-begun-rows (decided z d r q t) e y a h = clash e refl
-begun-rows (aborted z d r q t) e y a h = clash e refl
-begun-rows (stopped z d) e y a h = clash e refl
-begun-rows (left z d) e y a h = clash e refl
+  -- what the department of the station has once it began
+  begun-share : shareOf (departmentAt f s) begunFloor ≡ shareAfter f s round
+  begun-share = share-own (departmentAt f s) f (shareAfter f s round)
+
+  -- the rank begun is at most the highest of its department
+  begun-highest : rankOf round s ≤ highestOf begunFloor (departmentAt f s)
+  begun-highest = omega (arith, ap (λ (x : Share). x .highest) begun-share)
+
+  -- the row taken has its rank
+  taken-ranked : Lengths f → Sound f → rowTaken f s < 128 → rowAt begunFloor (rowTaken f s) .rank ≤ highestOf begunFloor (rowDepartment (rowTaken f s))
+  unfolding newRow
+  taken-ranked y z h =
+      rw (next-own f (departmentAt f s) h)
+      (omega (arith, begun-highest, ap (λ (w : Row). w .rank) (row-stored f y z (rowTaken f s) (newRow (f .n) s round v) h)))
+
+begun-ranked : {f : Floor} {s round v : ℕ} {x : Stepped} → StepCase f (Begin s round v) x → x .outcome ≡ Begun (rowTaken f s) → rankOf round s ≤ highestOf (x .floor) (departmentAt f s)
+begun-ranked (turned k t) e = clash refl (ap isRefused e)
+begun-ranked {f} (began {s = s} {round = r} {v = v} z d) e = begun-highest f s r v
+
+-- the row begun, whichever step said so
+begun-rows : {f : Floor} {c : Command} {x : Stepped} → Lengths f → StepCase f c x → (a : ℕ) → x .outcome ≡ Begun a → rowAt (x .floor) a .rank ≤ highestOf (x .floor) (rowDepartment a)
+begun-rows y (turned k t) a e = clash refl (ap isRefused e)
+begun-rows {f} y (began {s = s} {round = r} {v = v} z d) a e =
+    let q : rowTaken f s ≡ a = cc in
+    subst (λ (i : ℕ). rowAt (afterBegin f s r v) i .rank ≤ highestOf (afterBegin f s r v) (rowDepartment i)) q (taken-ranked f s r v y z (d .row))
+begun-rows y (served z d) a e = clash (ap isBegun e) refl
+begun-rows y (heard z d q) a e = clash (ap isBegun e) refl
+begun-rows y (issued z d r q t) a e = clash (ap isBegun e) refl
+begun-rows y (decided z d r q t) a e = clash (ap isBegun e) refl
+begun-rows y (aborted z d r q t) a e = clash (ap isBegun e) refl
+begun-rows y (stopped z d) a e = clash (ap isBegun e) refl
+begun-rows y (left z d) a e = clash (ap isBegun e) refl
 
 module _ (f : Floor) (c : Command) where
   abbrev g : Floor
   g = applyOf f c .floor
 
-  -- the highest rank begun never falls
-  highest-rises : highestBegun f ≤ highestBegun g
-  highest-rises = elim (apply-highest f c) [ inl e ↦ omega (arith, e) | inr r ↦ omega (arith, r .highest) ]
+  -- the highest rank begun of a department never falls
+  highest-rises : (d : Department) → highestOf f d ≤ highestOf g d
+  highest-rises d = elim (apply-share f c d) [
+    | inl e ↦ omega (arith, ap (λ (x : Share). x .highest) e)
+    | inr r ↦ omega (arith, ap (λ (x : Share). x .highest) (r .share), ap (λ (e : Department). highestOf f e) (r .of))
+  ]
 
   -- no row in use has a higher one
-  rows-ranked : Lawful f → (a : ℕ) → a < g .used → rowAt g a .rank ≤ highestBegun g
-  rows-ranked y a h =
-      by-cases (isBegun (applyOf f c .outcome)) (λ e. begun-rows (apply-case f c) e y a h)
-      (λ e.
-      let u : g .used ≡ f .used = apply-used f c ∙ sym (on-false _ e refl) in
-      omega (arith, row-same f c a (λ q. clash (ap isBegun q) e) .rank, y .rows a (omega arith), highest-rises))
+  rows-ranked : Lawful f → (a : ℕ) → InUse g a → rowAt g a .rank ≤ highestOf g (rowDepartment a)
+  rows-ranked y a h = elim (apply-in-use f c a h) [
+    | inl e ↦ begun-rows (y .lengths) (apply-case f c) a e
+    | inr u ↦ omega (arith, row-same f c a (u .1) .rank, y .rows a (u .0), highest-rises (rowDepartment a))
+  ]
+
+  -- a rank that a row of the department has
+  row-rank : Lawful f → (d : Department) (r : ℕ) → (a : ℕ) × InUse f a × (rowDepartment a ≡ d) × (r ≡ rowAt f a .rank) → r ≤ highestOf g d
+  row-rank y d r h = omega (arith, h .3, y .rows (h .0) (h .1), ap (λ (e : Department). highestOf f e) (h .2), highest-rises d)
 
   pub apply-lawful : Lawful f → Lawful g
   apply-lawful y = record {
     sound = apply-keeps f c (y .sound);
     lengths = apply-lengths f c (y .lengths);
     rows = rows-ranked y;
-    read = λ b. elim (box-grown f c b .read-from) [
-      | inl e ↦ omega (arith, e, y .read b, highest-rises)
-      | inr h ↦ omega (arith, h .2, y .rows (h .0) (h .1), highest-rises)
+    read = λ d b. elim (box-grown f c b d .read-from) [
+      | inl e ↦ omega (arith, e, y .read d b, highest-rises d)
+      | inr h ↦ row-rank y d _ h
     ];
-    write = λ b. elim (box-grown f c b .held-from) [
-      | inl e ↦ omega (arith, e .0, y .write b, highest-rises)
-      | inr h ↦ omega (arith, h .2, y .rows (h .0) (h .1), highest-rises)
+    write = λ d b. elim (box-grown f c b d .held-from) [
+      | inl e ↦ omega (arith, e .0, y .write d b, highest-rises d)
+      | inr h ↦ row-rank y d _ (h .0, h .1, h .2, h .3)
     ];
     last = λ s. elim (last-from f c s) [
       | inl e ↦ elim (y .last s) [
         | inl z ↦ inl (e ∙ z)
-        | inr h ↦ inr (omega (arith, e, h, highest-rises))
+        | inr h ↦ inr (rw (department-stays f c s) (omega (arith, e, h, highest-rises (departmentAt f s))))
       ]
-      | inr b ↦ inr (begun-ranked (subst (λ (x : Command). StepCase f x (applyOf f c)) (b .command) (apply-case f c)) (b .outcome))
+      | inr b ↦ inr (rw (department-stays f c s) (begun-ranked (subst (λ (x : Command). StepCase f x (applyOf f c)) (b .command) (apply-case f c)) (b .outcome)))
     ];
   }
 
@@ -111,18 +128,21 @@ unfolding floorAt
 after-lawful f l zero y = y
 after-lawful f l (suc i) y = step-lawful (floorAt f l i) (getD l i []) (after-lawful f l i y)
 
-empty-lawful : (n m : ℕ) → Sizes n m → Lawful (emptyFloor n m)
-empty-lawful n m z = record {
-  sound = empty-sound n m z;
-  lengths = empty-lengths n m;
-  rows = λ a h. absurd (omega arith);
-  read = λ b. rw (getD-same 9 b box0) (omega arith);
-  write = λ b. rw (getD-same 9 b box0) (omega arith);
-  last = λ s. inl (ap (λ (x : Station). x .last) (getD-same 16 s station0));
+empty-lawful : (n m : ℕ) (l : List ℕ) → Sizes n m → Lawful (emptyFloor n m l)
+empty-lawful n m l z = record {
+  sound = empty-sound n m l z;
+  lengths = empty-lengths n m l;
+  rows = λ a h. absurd (empty-unused n m l a h);
+  read = λ d b. rw (getD-same 9 b box0) (none d .0);
+  write = λ d b. rw (getD-same 9 b box0) (none d .1);
+  last = λ s. inl (ap (λ (x : Station). x .last) (told-at l (length l) s));
 }
+  where
+    none : (d : Department) → (registerOf d box0 .read ≤ highestOf (emptyFloor n m l) d) × (registerOf d box0 .write ≤ highestOf (emptyFloor n m l) d)
+    none Sails = (omega arith, omega arith)
+    none Canvas = (omega arith, omega arith)
 
-pub new-lawful : (n m : ℕ) → Lawful (newFloorOf n m .floor)
-unfolding newFloorOf
-new-lawful n m =
-    by-test (λ (x : NewFloor). Lawful (x .floor)) (sizesRight n m) _ _ (λ e. empty-lawful n m (sizes-mean n m e))
-    (λ _. empty-lawful 1 1 (record { box-least = omega arith; box-most = omega arith; station-least = omega arith; station-most = omega arith }))
+pub new-lawful : (n m : ℕ) (l : List ℕ) → Lawful (newFloorOf n m l .floor)
+new-lawful n m l =
+    new-floor-by Lawful n m l (λ z _. empty-lawful n m l z)
+    (empty-lawful 1 1 [] (record { box-least = omega arith; box-most = omega arith; station-least = omega arith; station-most = omega arith }))

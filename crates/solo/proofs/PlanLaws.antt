@@ -15,7 +15,7 @@ use Rattle.requests.specs.declared.Phase.the-variants.{Read, Write}
 use Rattle.commands.specs.Commands.{commandOf}
 use Rattle.commands.specs.declared.Command.the-variants.{Begin}
 use Rattle.commands.proofs.Encodings.{decode-encode}
-use Rattle.floor.specs.Free.{nextRow}
+use Rattle.floor.specs.Effects.{rowTaken}
 use Rattle.floor.specs.declared.Floor.{Floor}
 use Rattle.solo.specs.Plan.{roundOf, answeringFrom, lowest, askedOf, exchange, exchanges, beginOf, exchangesOf, planOf}
 
@@ -62,10 +62,10 @@ exchanges-most p a q n boxes =
 pub plan-most : (f : Floor) (s v : ℕ) → length (planOf f s v) ≤ 4 * f .n + 1
 unfolding exchangesOf
 plan-most f s v =
-    let reads : List (List ℕ) = exchanges Read (nextRow f) (askedOf f) in
-    let writes : List (List ℕ) = exchanges Write (nextRow f) (askedOf f) in
-    let r = exchanges-most Read (nextRow f) (quorum (f .n)) (f .n) (f .boxes) in
-    let w = exchanges-most Write (nextRow f) (quorum (f .n)) (f .n) (f .boxes) in
+    let reads : List (List ℕ) = exchanges Read (rowTaken f s) (askedOf f) in
+    let writes : List (List ℕ) = exchanges Write (rowTaken f s) (askedOf f) in
+    let r = exchanges-most Read (rowTaken f s) (quorum (f .n)) (f .n) (f .boxes) in
+    let w = exchanges-most Write (rowTaken f s) (quorum (f .n)) (f .n) (f .boxes) in
     omega (arith, length-append reads writes)
 
 -- counting: the c boxes found below b, and those from b on, are all

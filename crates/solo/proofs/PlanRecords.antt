@@ -11,7 +11,7 @@ use Rattle.requests.specs.declared.Phase.the-variants.{Read, Write}
 use Rattle.commands.specs.Commands.{encodeOf}
 use Rattle.commands.specs.Claims.{Fielded}
 use Rattle.commands.proofs.Encodings.{encode-length, encode-bytes}
-use Rattle.floor.specs.Free.{nextRow}
+use Rattle.floor.specs.Effects.{rowTaken}
 use Rattle.floor.specs.declared.Floor.{Floor}
 use Rattle.commands.specs.declared.Command.{Command}
 use Rattle.commands.specs.declared.Command.the-variants.{Begin, Serve, Deliver}
@@ -45,11 +45,11 @@ exchanges-records p a [] h u = tt
 exchanges-records p a (b ∷ bs) h u = (command-record (Serve p a b) (h, u .0), (command-record (Deliver p a b) (h, u .0), exchanges-records p a bs h (u .1)))
 
 -- the plan is made of records of 8 bytes
-pub plan-rest : (f : Floor) → nextRow f < 256 → f .n ≤ 256 → AllRecords (exchangesOf f)
+pub plan-rest : (f : Floor) (s : ℕ) → rowTaken f s < 256 → f .n ≤ 256 → AllRecords (exchangesOf f s)
 unfolding exchangesOf lowest
-plan-rest f hu hn =
+plan-rest f s hu hn =
     let u = below-take 256 (quorum (f .n)) (answering f) (answering-below 256 (f .boxes) (f .n) 0 (omega arith)) in
-    all-append (exchanges Read (nextRow f) _) _ (exchanges-records Read (nextRow f) _ hu u) (exchanges-records Write (nextRow f) _ hu u)
+    all-append (exchanges Read (rowTaken f s) _) _ (exchanges-records Read (rowTaken f s) _ hu u) (exchanges-records Write (rowTaken f s) _ hu u)
 
-pub plan-records : (f : Floor) (s v : ℕ) → s < 256 → v < 4294967296 → roundOf f s ≤ 65535 → nextRow f < 256 → f .n ≤ 256 → AllRecords (planOf f s v)
-plan-records f s v hs hv hr hu hn = (command-record (Begin s (roundOf f s) v) (hs, omega arith, hv), plan-rest f hu hn)
+pub plan-records : (f : Floor) (s v : ℕ) → s < 256 → v < 4294967296 → roundOf f s ≤ 65535 → rowTaken f s < 256 → f .n ≤ 256 → AllRecords (planOf f s v)
+plan-records f s v hs hv hr hu hn = (command-record (Begin s (roundOf f s) v) (hs, omega arith, hv), plan-rest f s hu hn)

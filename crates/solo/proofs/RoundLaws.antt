@@ -20,4 +20,4 @@ module _ (h s : ℕ) where
   round-least r l p = omega arith
 
 pub round-smallest : (f : Floor) (s : ℕ) → Smallest f s (roundOf f s)
-round-smallest f s = record { some = round-some (highestBegun f) s; passes = round-passes (highestBegun f) s; least = round-least (highestBegun f) s }
+round-smallest f s = record { some = round-some (highestBegun f s) s; passes = round-passes (highestBegun f s) s; least = round-least (highestBegun f s) s }

@@ -19,7 +19,8 @@ use Rattle.commands.specs.Commands.{encodeOf}
 use Rattle.commands.specs.declared.Command.the-variants.{Begin}
 use Rattle.floor.specs.Runs.{runOf, drivenIn}
 use Rattle.floor.specs.Claims.{Sound}
-use Rattle.floor.specs.Free.{nextRow}
+use Rattle.floor.specs.Floors.{departmentAt}
+use Rattle.floor.specs.Effects.{rowTaken}
 use Rattle.floor.proofs.FreeLaws.{next-most}
 use Rattle.floor.specs.declared.Floor.{Floor}
 use Rattle.floor.specs.declared.Ran.{Ran}
@@ -135,17 +136,17 @@ module _ {s : List ℕ} {at n : ℕ} {p : Phase} {a : ℕ} {boxes : List Storage
       (omega (arith, w .room), rw (e, phase-over, append-nil (take end l)) at (w .bytes))
 
 -- Both phases are written, with the places m and end behind them: the run of the begin and of the records there is that of the plan.
-module _ (f : Floor) (l l' : List ℕ) (m end a : ℕ) where
-  pub plan-written : a ≡ nextRow f → take m l ≡ flatten (exchanges Read a (askedOf f)) → take end l' ≡ take m l ++ flatten (exchanges Write a (askedOf f))
-      → take end l' ≡ flatten (exchangesOf f)
+module _ (f : Floor) (s : ℕ) (l l' : List ℕ) (m end a : ℕ) where
+  pub plan-written : a ≡ rowTaken f s → take m l ≡ flatten (exchanges Read a (askedOf f)) → take end l' ≡ take m l ++ flatten (exchanges Write a (askedOf f))
+      → take end l' ≡ flatten (exchangesOf f s)
   unfolding exchangesOf
-  plan-written e r w = w ∙ rw (r, e) (sym (joined-append (exchanges Read (nextRow f) (askedOf f)) (exchanges Write (nextRow f) (askedOf f))))
+  plan-written e r w = w ∙ rw (r, e) (sym (joined-append (exchanges Read (rowTaken f s) (askedOf f)) (exchanges Write (rowTaken f s) (askedOf f))))
 
 module _ (f : Floor) (s v round : ℕ) (r l : List ℕ) (x : Ran) where
-  pub plan-run : Sound f → round ≡ roundOf f s → r ≡ encodeOf (Begin s round v) → l ≡ flatten (exchangesOf f)
-      → x ≡ drivenIn f r l → x ≡ runOf End f (beginOf f s v) (exchangesOf f)
+  pub plan-run : Sound f → round ≡ roundOf f s → r ≡ encodeOf (Begin s round v) → l ≡ flatten (exchangesOf f s)
+      → x ≡ drivenIn f r l → x ≡ runOf End f (beginOf f s v) (exchangesOf f s)
   plan-run z hr er el ex =
-      let all = plan-rest f (omega (arith, next-most f)) (omega (arith, z .box-most)) in
-      let whole : length l % 8 ≡ 0 = omega (arith, ap length el, joined-length (exchangesOf f) (all-eight (exchangesOf f) all)) in
+      let all = plan-rest f s (omega (arith, next-most f (departmentAt f s))) (omega (arith, z .box-most)) in
+      let whole : length l % 8 ≡ 0 = omega (arith, ap length el, joined-length (exchangesOf f s) (all-eight (exchangesOf f s) all)) in
       ex ∙ sym (driven-whole f l 0 (run-0 f l (sound-holds f z) whole) r refl (runOf End f r (recordsIn l)) refl)
-      ∙ rw (er, hr, el, records-again (exchangesOf f) all)
+      ∙ rw (er, hr, el, records-again (exchangesOf f s) all)

@@ -11,8 +11,10 @@ use Rattle.commands.specs.Outcomes.{numberOf, valueOf, isRefused}
 use Rattle.commands.specs.declared.Command.the-variants.{Begin}
 use Rattle.commands.specs.declared.Outcome.the-variants.{Aborted, Decided}
 use Rattle.attempts.specs.declared.State.the-variants.{Idle}
-use Rattle.floor.specs.Floors.{boxAt, stationAt, rowAt, newFloorOf}
-use Rattle.floor.specs.Free.{nextRow}
+use Rattle.register.specs.declared.Department.{Department}
+use Rattle.attempts.specs.Rows.{rowDepartment}
+use Rattle.floor.specs.Floors.{stationAt, rowAt, registerAt, highestOf, InUse, newFloorOf}
+use Rattle.floor.specs.Effects.{rowTaken}
 use Rattle.floor.specs.Step.{stepOf}
 use Rattle.floor.specs.Runs.{floorAt, saidAt}
 use Rattle.floor.specs.Claims.{Sound, Lengths}
@@ -21,11 +23,11 @@ use Rattle.solo.specs.Plan.{highestBegun, roundOf, answering, beginOf, p
 use Rattle.solo.specs.Solo.{turnedAway, soloOf, soloNumber, soloValue}
 use Rattle.solo.specs.declared.Solo.{Solo}
 
--- "the smallest round, at least 1, whose rank passes" the highest rank begun, whatever the rows say
+-- "the smallest round, at least 1, whose rank passes" the highest rank begun in the station's department, whatever the rows say
 pub record Smallest (f : Floor) (s round : ℕ) : Type 0 where
   pub some : 1 ≤ round
-  pub passes : highestBegun f < rankOf round s
-  pub least : (r : ℕ) → 1 ≤ r → highestBegun f < rankOf r s → round ≤ r
+  pub passes : highestBegun f s < rankOf round s
+  pub least : (r : ℕ) → 1 ≤ r → highestBegun f s < rankOf r s → round ≤ r
 
 -- "the solo finish's step count is in its result struct and equals the length of the step list that leads to the returned floor": d is what the first records of the list l
 -- did to f, as many as d counts: each of them was accepted, and the last of them said what d says, unless d says a refusal
@@ -35,15 +37,15 @@ pub record Counted (f : Floor) (l : List (List ℕ)) (d : Solo) : Type 0 where
   pub accepted : (i : ℕ) → i < d .steps → isRefused (saidAt f l i) ≡ false
   pub last : isRefused (d .outcome) ≡ false → (i : ℕ) → suc i ≡ d .steps → saidAt f l i ≡ d .outcome
 
--- What holds of a new floor and is kept by every step: no row has, no box has served, and no station has begun, a rank above the highest
--- begun. A floor built by hand may lack it.
+-- What holds of a new floor and is kept by every step, department by department: no row has, no box has served, and no station has begun, a
+-- rank above the highest begun. A floor built by hand may lack it.
 pub record Lawful (f : Floor) : Type 0 where
   pub sound : Sound f
   pub lengths : Lengths f
-  pub rows : (a : ℕ) → a < f .used → rowAt f a .rank ≤ highestBegun f
-  pub read : (b : ℕ) → boxAt f b .register .read ≤ highestBegun f
-  pub write : (b : ℕ) → boxAt f b .register .write ≤ highestBegun f
-  pub last : (s : ℕ) → (stationAt f s .last ≡ 0) ⊎ (rankOf (stationAt f s .last) s ≤ highestBegun f)
+  pub rows : (a : ℕ) → InUse f a → rowAt f a .rank ≤ highestOf f (rowDepartment a)
+  pub read : (d : Department) (b : ℕ) → registerAt f d b .read ≤ highestOf f d
+  pub write : (d : Department) (b : ℕ) → registerAt f d b .write ≤ highestOf f d
+  pub last : (s : ℕ) → (stationAt f s .last ≡ 0) ⊎ (rankOf (stationAt f s .last) s ≤ highestBegun f s)
 
 -- the station s is idle and may offer v, and nothing stands in its way
 pub record Ready (f : Floor) (s v : ℕ) : Type 0 where
@@ -51,7 +53,7 @@ pub record Ready (f : Floor) (s v : ℕ) : Type 0 where
   pub idle : stationAt f s .state ≡ Idle
   pub offer : 1 ≤ v
   pub round : roundOf f s ≤ 65535
-  pub row : nextRow f < 64
+  pub row : rowTaken f s < 128
   pub boxes : quorum (f .n) ≤ length (answering f)
 
 -- it says decided, with some revision, after 4q + 1 steps
@@ -63,11 +65,11 @@ pub record DecidesAlone (f : Floor) (d : Solo) : Type 0 where
 -- What a solo finish on any floor comes to, one built by hand too: it is turned back with 0 steps and leaves the floor; or it takes
 -- 4q + 1 steps, at the last of which the station decides or the attempt, in the row that a begin takes, aborts; or the attempt aborts at its k-th
 -- read answer, after the begin and k exchanges.
-pub data Ends (f : Floor) (d : Solo) : Type 0 where
-  turned : (k : ℕ) → d ≡ turnedAway f k → Ends f d
-  decided : (v : ℕ) → d .outcome ≡ Decided v → d .steps ≡ 4 * quorum (f .n) + 1 → Ends f d
-  aborted : d .outcome ≡ Aborted (nextRow f) → d .steps ≡ 4 * quorum (f .n) + 1 → Ends f d
-  outranked : (k : ℕ) → 1 ≤ k → k ≤ quorum (f .n) → d .outcome ≡ Aborted (nextRow f) → d .steps ≡ 2 * k + 1 → Ends f d
+pub data Ends (f : Floor) (s : ℕ) (d : Solo) : Type 0 where
+  turned : (k : ℕ) → d ≡ turnedAway f k → Ends f s d
+  decided : (v : ℕ) → d .outcome ≡ Decided v → d .steps ≡ 4 * quorum (f .n) + 1 → Ends f s d
+  aborted : d .outcome ≡ Aborted (rowTaken f s) → d .steps ≡ 4 * quorum (f .n) + 1 → Ends f s d
+  outranked : (k : ℕ) → 1 ≤ k → k ≤ quorum (f .n) → d .outcome ≡ Aborted (rowTaken f s) → d .steps ≡ 2 * k + 1 → Ends f s d
 
 -- What holds of every solo finish.
 pub record SoloClaims : Type 0 where
@@ -79,9 +81,9 @@ pub record SoloClaims : Type 0 where
   pub value : (f : Floor) (s v : ℕ) → valueOf (soloOf f s v .outcome) ≡ soloValue f s v
   -- refused solo finishes too
   pub counted : (f : Floor) (s v : ℕ) → Counted f (planOf f s v) (soloOf f s v)
-  pub ends : (f : Floor) (s v : ℕ) → Lengths f → Ends f (soloOf f s v)
+  pub ends : (f : Floor) (s v : ℕ) → Lengths f → Ends f s (soloOf f s v)
   -- "an idle station driven alone, whatever revision it offers, decides in exactly 4q + 1 steps", on a lawful floor; every floor that a
   -- list of steps from a new floor reaches is one
   pub decides : (f : Floor) (s v : ℕ) → Lawful f → Ready f s v → DecidesAlone f (soloOf f s v)
-  pub new-lawful : (n m : ℕ) → Lawful (newFloorOf n m .floor)
+  pub new-lawful : (n m : ℕ) (departments : List ℕ) → Lawful (newFloorOf n m departments .floor)
   pub lawful : (f : Floor) (r : List ℕ) → Lawful f → Lawful (stepOf f r .floor)

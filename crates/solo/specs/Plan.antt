@@ -10,12 +10,14 @@ use Rattle.requests.specs.declared.Phase.{Phase}
 use Rattle.requests.specs.declared.Phase.the-variants.{Read, Write}
 use Rattle.commands.specs.Commands.{encodeOf}
 use Rattle.commands.specs.declared.Command.the-variants.{Begin, Serve, Deliver}
-use Rattle.floor.specs.Free.{nextRow}
+use Rattle.floor.specs.Floors.{departmentAt, highestOf}
+use Rattle.floor.specs.Effects.{rowTaken}
 use Rattle.floor.specs.declared.Floor.{Floor}
 
--- "every rank begun on the floor": the highest of them, which wish 5 of document 02 has the floor keep, the start rank where none was begun
-abbrev pub highestBegun : (f : Floor) → ℕ
-highestBegun f = f .highest
+-- "every rank begun on the floor": the highest of them, which wish 5 of document 02 has the floor keep, the start rank where none was begun.
+-- Wish 6: "the solo finish outranks its own only", the department of its station.
+abbrev pub highestBegun : (f : Floor) (station : ℕ) → ℕ
+highestBegun f station = highestOf f (departmentAt f station)
 
 -- the smallest round of at least 1 whose rank for that station passes h
 unfoldable pub roundAbove : (h station : ℕ) → ℕ
@@ -24,7 +26,7 @@ roundAbove h station = (h - station) / 16 + 1
 -- "it picks the smallest round, at least 1, whose rank passes every rank begun on the floor"; wish 5: "The solo finish goes by the highest
 -- rank begun alone". That it is the smallest is the claim `Smallest` in specs/Claims
 abbrev pub roundOf : (f : Floor) (station : ℕ) → ℕ
-roundOf f station = roundAbove (highestBegun f) station
+roundOf f station = roundAbove (highestBegun f station) station
 
 -- of k boxes from box b on, the numbers of those that have not stopped, in ascending order
 unfoldable pub answeringFrom : (k b : ℕ) (boxes : List StorageBox) → List ℕ
@@ -54,14 +56,14 @@ exchanges phase a [] = []
 exchanges phase a (b ∷ bs) = exchange phase a b ++ exchanges phase a bs
 
 -- "It begins, serves and delivers the read at the q lowest-numbered answering boxes, one box after the other, then the write
--- likewise": the record of its begin, and those behind it. The attempt is the row that a begin takes on the floor handed in, and the boxes
+-- likewise": the record of its begin, and those behind it. The attempt is the row that a begin of the station takes on the floor handed in, and the boxes
 -- are those that answer there.
 abbrev pub beginOf : (f : Floor) (station revision : ℕ) → List ℕ
 beginOf f station revision = encodeOf (Begin station (roundOf f station) revision)
 
-unfoldable pub exchangesOf : (f : Floor) → List (List ℕ)
-exchangesOf f = exchanges Read (nextRow f) (askedOf f) ++ exchanges Write (nextRow f) (askedOf f)
+unfoldable pub exchangesOf : (f : Floor) (station : ℕ) → List (List ℕ)
+exchangesOf f station = exchanges Read (rowTaken f station) (askedOf f) ++ exchanges Write (rowTaken f station) (askedOf f)
 
 -- the list of its steps
 abbrev pub planOf : (f : Floor) (station revision : ℕ) → List (List ℕ)
-planOf f station revision = beginOf f station revision ∷ exchangesOf f
+planOf f station revision = beginOf f station revision ∷ exchangesOf f station

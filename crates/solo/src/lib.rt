@@ -9,7 +9,8 @@ ghost use lib.ListN.{length, take};
 ghost use lib.Dec.{ltb};
 ghost use Rattle.base.specs.Numbers.{quorum};
 ghost use Rattle.commands.specs.Outcomes.{numberOf, valueOf};
-ghost use Rattle.floor.specs.Free.{nextRow};
+ghost use Rattle.floor.specs.Floors.{departmentAt};
+ghost use Rattle.floor.specs.Effects.{rowTaken};
 ghost use Rattle.floor.specs.Runs.{runOf};
 ghost use Rattle.floor.specs.Claims.{Sound};
 ghost use Rattle.floor.specs.declared.Until.the-variants.{End};
@@ -18,6 +19,7 @@ ghost use Rattle.solo.specs.Solo.{frontRefusal, turnedAway, ofRun, soloO
 use commands::Command;
 use commands::Outcome;
 use floor::Floor;
+use register::Department;
 use register::StorageBox;
 use requests::Phase;
 
@@ -36,6 +38,17 @@ fn turned_away(f: Floor, k: u8) -> Solo
         steps: 0,
         outcome: Outcome::Refused(k),
     }
+}
+
+// The department of a station; sails past the last.
+fn department_at(f: Floor, s: u8) -> Department
+    ensures { λ r. ⌜ r ≡ departmentAt f s ⌝ }
+{
+    if 16 <= s {
+        return Department::Sails;
+    }
+    let station = f.stations[s as usize];
+    station.department
 }
 
 // The smallest round of at least 1 whose rank for the station passes h.
@@ -76,7 +89,7 @@ fn too_few(boxes: [StorageBox; 9], n: u8) -> bool
 
 // The first of refusals 8 to 12 and 15 that applies, 0 where none does; `next` is the row that the begin takes.
 fn refusal(f: Floor, s: u8, v: u32, round: u32, next: u8) -> u8
-    requires { ⌜ (f .n ≤ 9) × (f .m ≤ 16) × (next ≡ nextRow f) ⌝ }
+    requires { ⌜ (f .n ≤ 9) × (f .m ≤ 16) × (next ≡ rowTaken f s) ⌝ }
     ensures { λ r. ⌜ r ≡ frontRefusal f s v round ⌝ }
 {
     if f.m <= s {
@@ -100,7 +113,7 @@ fn refusal(f: Floor, s: u8, v: u32, round: u32, next: u8) -> u8
     if 65535 < round {
         return 11;
     }
-    if 64 <= next {
+    if 128 <= next {
         return 12;
     }
     if few {
@@ -157,8 +170,8 @@ fn put_phase(out: &mut [u8], at: usize, boxes: [StorageBox; 9], n: u8, p: Phase,
 // The steps of the plan, up to the first that is turned back or that ends the attempt. Two phases with at most 5 boxes each are 20
 // records of 8 bytes behind the begin.
 fn drive(f: Floor, s: u8, round: u16, v: u32, next: u8) -> Solo
-    requires { ⌜ (Sound f) × (round ≡ roundOf f s) × (next ≡ nextRow f) ⌝ }
-    ensures { λ r. ⌜ r ≡ ofRun (runOf End f (beginOf f s v) (exchangesOf f)) ⌝ }
+    requires { ⌜ (Sound f) × (round ≡ roundOf f s) × (next ≡ rowTaken f s) ⌝ }
+    ensures { λ r. ⌜ r ≡ ofRun (runOf End f (beginOf f s v) (exchangesOf f s)) ⌝ }
 {
     let boxes = f.boxes;
     let mut out: [u8; 160] = [0; 160];
@@ -184,8 +197,11 @@ pub fn solo_finish(f: Floor, s: u8, v: u32) -> Solo
     if !floor::sound(f) {
         return turned_away(f, 6);
     }
-    let round = round_above(f.highest, s);
-    let next = floor::next_row(f);
+    let d = department_at(f, s);
+    let shares = f.shares;
+    let share = floor::share_of(shares, d);
+    let round = round_above(share.highest, s);
+    let next = floor::next_row(f, d);
     let e = refusal(f, s, v, round, next);
     if e != 0 {
         return turned_away(f, e);

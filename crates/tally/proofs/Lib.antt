@@ -1,1 +1,2 @@
+pub mod DepartmentValues
 pub mod TallyLaws

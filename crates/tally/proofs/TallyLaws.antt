@@ -13,55 +13,12 @@ use lib.ListN.{length, getD, take, drop, drop-of-length-le}
 use lib.Seq.{drop-cons}
 use Rattle.base.specs.Choice.{if_then_else_}
 use Rattle.base.proofs.Choices.{on-true, on-false}
+use Rattle.register.specs.Register.{registerOf}
+use Rattle.register.specs.declared.Department.{Department}
 use Rattle.register.specs.declared.StorageBox.{StorageBox}
 use Rattle.tally.specs.Tally.{notStopped, highestWrite, tallyOf, oneMore}
 use Rattle.tally.specs.Claims.{Counts, TallyTheorem}
 use Rattle.tally.specs.declared.Tally.{Tally}
-
--- a tally begins with 0 and 0
-pub tally-nil : tallyOf [] ≡ record { count = 0; highest = 0 }
-unfolding tallyOf notStopped highestWrite
-tally-nil = refl
-
--- one box more, at the front: a stopped one changes nothing, another is counted
-pub tally-stopped : (b : StorageBox) (bs : List StorageBox) → b .stopped ≡ true → tallyOf (b ∷ bs) ≡ tallyOf bs
-unfolding tallyOf notStopped if_then_else_
-tally-stopped b bs e = rw e refl
-
-pub tally-going : (b : StorageBox) (bs : List StorageBox) → b .stopped ≡ false → tallyOf (b ∷ bs) ≡ record { count = tallyOf bs .count + 1; highest = max (tallyOf bs .highest) (b .register .write) }
-unfolding tallyOf notStopped highestWrite if_then_else_
-tally-going b bs e = rw (e, add-one) refl
-
-cons-by : (s : Bool) (b : StorageBox) (bs : List StorageBox) → b .stopped ≡ s → tallyOf (b ∷ bs) ≡ oneMore b (tallyOf bs)
-unfolding oneMore
-cons-by true b bs e = on-true _ e (tally-stopped b bs e)
-cons-by false b bs e = on-false _ e (tally-going b bs e)
-
-pub tally-cons : (b : StorageBox) (bs : List StorageBox) → tallyOf (b ∷ bs) ≡ oneMore b (tallyOf bs)
-tally-cons b bs = cons-by (b .stopped) b bs refl
-
--- the tally of the boxes from j on, from that of the boxes behind box j
-pub tally-at : (bs : List StorageBox) (i j : ℕ) (d : StorageBox) (t r : Tally) → i ≡ suc j → j < length bs → t ≡ tallyOf (drop i bs) → r ≡ oneMore (getD bs j d) t → r ≡ tallyOf (drop j bs)
-tally-at bs i j d t r n h e f =
-    f ∙ ap (oneMore (getD bs j d)) (e ∙ ap (λ (m : ℕ). tallyOf (drop m bs)) n)
-    ∙ sym (tally-cons (getD bs j d) (drop (suc j) bs)) ∙ ap tallyOf (sym (drop-cons bs j d h))
-
--- behind the last box there is nothing to count
-pub tally-end : (bs : List StorageBox) (i : ℕ) → length bs ≤ i → record { count = 0; highest = 0 } ≡ tallyOf (drop i bs)
-tally-end bs i h = sym tally-nil ∙ ap tallyOf (sym (drop-of-length-le bs h))
-
--- no more are counted than there are
-count-by : (s : Bool) (b : StorageBox) (bs : List StorageBox) → b .stopped ≡ s → tallyOf bs .count ≤ length bs → tallyOf (b ∷ bs) .count ≤ length (b ∷ bs)
-count-by true b bs e h = rw (tally-stopped b bs e) (omega (arith, h))
-count-by false b bs e h = rw (tally-going b bs e) (omega (arith, h))
-
-pub count-le : (bs : List StorageBox) → tallyOf bs .count ≤ length bs
-count-le [] = rw tally-nil (le-refl 0)
-count-le (b ∷ bs) = count-by (b .stopped) b bs refl (count-le bs)
-
--- so that the count of fewer than 2 ^ 64 - 1 boxes has room for one more
-pub count-fits : (t : Tally) (bs : List StorageBox) → t ≡ tallyOf bs → length bs + 1 < 2 ^ 64 → t .count + 1 < 2 ^ 64
-count-fits t bs e h = omega (arith, subst (λ (u : Tally). u .count ≤ length bs) (sym e) (count-le bs))
 
 -- past the end of a list there is nothing to take
 pub take-min : {A : Type 0} (n : ℕ) (l : List A) → take (min n (length l)) l ≡ take n l
@@ -69,69 +26,116 @@ take-min zero l = rw zero-min refl
 take-min (suc n) [] = rw min-zero refl
 take-min {A = A} (suc n) (x ∷ l) = rw suc-min-suc (ap (λ (k : List A). x ∷ k) (take-min n l))
 
--- ---- the tally as facts
--- no box that has not stopped has a higher write rank
-most-behind : (s : Bool) (b : StorageBox) (bs : List StorageBox) (r : ℕ) → b .stopped ≡ s → r ≤ tallyOf bs .highest → r ≤ tallyOf (b ∷ bs) .highest
-most-behind true b bs r e h = rw (tally-stopped b bs e) h
-most-behind false b bs r e h = rw (tally-going b bs e) (le-trans h (le-max-left (tallyOf bs .highest) (b .register .write)))
+-- a department and its tally
+module _ (d : Department) where
+  -- a tally begins with 0 and 0
+  pub tally-nil : tallyOf d [] ≡ record { count = 0; highest = 0 }
+  unfolding tallyOf notStopped highestWrite
+  tally-nil = refl
 
-most : (bs : List StorageBox) (x : StorageBox) → List·Memᴰ x bs → x .stopped ≡ false → x .register .write ≤ tallyOf bs .highest
-most [] x m e = absurd (List·Memᴰ·not-nil m)
-most (b ∷ bs) x (List·Memᴰ·head q) e = rw (q, tally-going b bs (rw q at e)) (le-max-right (tallyOf bs .highest) (b .register .write))
-most (b ∷ bs) x (List·Memᴰ·tail m) e = most-behind (b .stopped) b bs (x .register .write) refl (most bs x m e)
+  -- one box more, at the front: a stopped one changes nothing, another is counted
+  pub tally-stopped : (b : StorageBox) (bs : List StorageBox) → b .stopped ≡ true → tallyOf d (b ∷ bs) ≡ tallyOf d bs
+  unfolding tallyOf notStopped if_then_else_
+  tally-stopped b bs e = rw e refl
 
--- where none is counted the rank is 0
-none-left : (l : List StorageBox) → length l ≡ 0 → highestWrite l ≡ 0
-unfolding highestWrite
-none-left [] e = refl
-none-left (b ∷ l) e = absurd (suc-ne-zero (length l) e)
+  pub tally-going : (b : StorageBox) (bs : List StorageBox) → b .stopped ≡ false → tallyOf d (b ∷ bs) ≡ record { count = tallyOf d bs .count + 1; highest = max (tallyOf d bs .highest) (registerOf d b .write) }
+  unfolding tallyOf notStopped highestWrite if_then_else_
+  tally-going b bs e = rw (e, add-one) refl
 
-none-counted : (bs : List StorageBox) → tallyOf bs .count ≡ 0 → tallyOf bs .highest ≡ 0
-unfolding tallyOf
-none-counted bs e = none-left (notStopped bs) e
+  cons-by : (s : Bool) (b : StorageBox) (bs : List StorageBox) → b .stopped ≡ s → tallyOf d (b ∷ bs) ≡ oneMore d b (tallyOf d bs)
+  unfolding oneMore
+  cons-by true b bs e = on-true _ e (tally-stopped b bs e)
+  cons-by false b bs e = on-false _ e (tally-going b bs e)
 
--- where all have stopped none is counted
-all-stopped : (bs : List StorageBox) → ((b : StorageBox) → List·Memᴰ b bs → b .stopped ≡ true) → tallyOf bs .count ≡ 0
-all-stopped [] h = ap (λ (t : Tally). t .count) tally-nil
-all-stopped (b ∷ bs) h = ap (λ (t : Tally). t .count) (tally-stopped b bs (h b (List·Memᴰ·head refl))) ∙ all-stopped bs (λ x m. h x (List·Memᴰ·tail m))
+  pub tally-cons : (b : StorageBox) (bs : List StorageBox) → tallyOf d (b ∷ bs) ≡ oneMore d b (tallyOf d bs)
+  tally-cons b bs = cons-by (b .stopped) b bs refl
 
--- some box that has not stopped has this write rank
-abbrev Reached : List StorageBox → ℕ → Type 0
-Reached bs r = (b : StorageBox) × (Counts bs b × (b .register .write ≡ r))
+  -- the tally of the boxes from j on, from that of the boxes behind box j
+  pub tally-at : (bs : List StorageBox) (i j : ℕ) (x : StorageBox) (t r : Tally) → i ≡ suc j → j < length bs → t ≡ tallyOf d (drop i bs) → r ≡ oneMore d (getD bs j x) t → r ≡ tallyOf d (drop j bs)
+  tally-at bs i j x t r n h e f =
+      f ∙ ap (oneMore d (getD bs j x)) (e ∙ ap (λ (m : ℕ). tallyOf d (drop m bs)) n)
+      ∙ sym (tally-cons (getD bs j x) (drop (suc j) bs)) ∙ ap (tallyOf d) (sym (drop-cons bs j x h))
 
-reached-behind : (b : StorageBox) (bs : List StorageBox) (r : ℕ) → Reached bs r → Reached (b ∷ bs) r
-reached-behind b bs r x = (x .0, (record { member = List·Memᴰ·tail (x .1 .0 .member); going = x .1 .0 .going }, x .1 .1))
+  -- behind the last box there is nothing to count
+  pub tally-end : (bs : List StorageBox) (i : ℕ) → length bs ≤ i → record { count = 0; highest = 0 } ≡ tallyOf d (drop i bs)
+  tally-end bs i h = sym tally-nil ∙ ap (tallyOf d) (sym (drop-of-length-le bs h))
 
--- the first box has the larger of two ranks, or one behind it
-first-or-behind : (b : StorageBox) (bs : List StorageBox) (h : ℕ) (t : Bool) → ltb (b .register .write) h ≡ t → b .stopped ≡ false → (0 < h → Reached bs h) → Reached (b ∷ bs) (max h (b .register .write))
-first-or-behind b bs h true l f k =
-    let lt : b .register .write < h = ltb-true (b .register .write) h l in
-    subst (Reached (b ∷ bs)) (sym (max-eq-left (le-of-lt lt))) (reached-behind b bs h (k (omega (arith, lt))))
-first-or-behind b bs h false l f k = (b, (record { member = List·Memᴰ·head refl; going = f }, sym (max-eq-right (ltb-false (b .register .write) h l))))
+  -- no more are counted than there are
+  count-by : (s : Bool) (b : StorageBox) (bs : List StorageBox) → b .stopped ≡ s → tallyOf d bs .count ≤ length bs → tallyOf d (b ∷ bs) .count ≤ length (b ∷ bs)
+  count-by true b bs e h = rw (tally-stopped b bs e) (omega (arith, h))
+  count-by false b bs e h = rw (tally-going b bs e) (omega (arith, h))
 
--- a rank above 0 is that of a box which is counted
-some-counted : (bs : List StorageBox) → 0 < tallyOf bs .highest → 0 < tallyOf bs .count
-some-counted bs p = by-count (eq-zero-or-pos (tallyOf bs .count))
-  where
-    by-count : (tallyOf bs .count ≡ 0) ⊎ (0 < tallyOf bs .count) → 0 < tallyOf bs .count
-    by-count (inl z) = absurd (omega (arith, p, none-counted bs z))
-    by-count (inr q) = q
+  pub count-le : (bs : List StorageBox) → tallyOf d bs .count ≤ length bs
+  count-le [] = rw tally-nil (le-refl 0)
+  count-le (b ∷ bs) = count-by (b .stopped) b bs refl (count-le bs)
 
-reached-by : (s : Bool) (b : StorageBox) (bs : List StorageBox) → b .stopped ≡ s → (0 < tallyOf bs .count → Reached bs (tallyOf bs .highest))
-    → 0 < tallyOf (b ∷ bs) .count → Reached (b ∷ bs) (tallyOf (b ∷ bs) .highest)
-reached-by true b bs e k p = rw (tally-stopped b bs e) (reached-behind b bs (tallyOf bs .highest) (k (subst (λ (t : Tally). 0 < t .count) (tally-stopped b bs e) p)))
-reached-by false b bs e k p = rw (tally-going b bs e) (first-or-behind b bs (tallyOf bs .highest) (ltb (b .register .write) (tallyOf bs .highest)) refl e (λ q. k (some-counted bs q)))
+  -- so that the count of fewer than 2 ^ 64 - 1 boxes has room for one more
+  pub count-fits : (t : Tally) (bs : List StorageBox) → t ≡ tallyOf d bs → length bs + 1 < 2 ^ 64 → t .count + 1 < 2 ^ 64
+  count-fits t bs e h = omega (arith, subst (λ (u : Tally). u .count ≤ length bs) (sym e) (count-le bs))
 
-reached : (bs : List StorageBox) → 0 < tallyOf bs .count → Reached bs (tallyOf bs .highest)
-reached [] p = absurd (not-suc-le-zero (subst (λ (t : Tally). 0 < t .count) tally-nil p))
-reached (b ∷ bs) p = reached-by (b .stopped) b bs refl (reached bs) p
+  -- ---- the tally as facts
+  -- no box that has not stopped has a higher write rank
+  most-behind : (s : Bool) (b : StorageBox) (bs : List StorageBox) (r : ℕ) → b .stopped ≡ s → r ≤ tallyOf d bs .highest → r ≤ tallyOf d (b ∷ bs) .highest
+  most-behind true b bs r e h = rw (tally-stopped b bs e) h
+  most-behind false b bs r e h = rw (tally-going b bs e) (le-trans h (le-max-left (tallyOf d bs .highest) (registerOf d b .write)))
+
+  most : (bs : List StorageBox) (x : StorageBox) → List·Memᴰ x bs → x .stopped ≡ false → registerOf d x .write ≤ tallyOf d bs .highest
+  most [] x m e = absurd (List·Memᴰ·not-nil m)
+  most (b ∷ bs) x (List·Memᴰ·head q) e = rw (q, tally-going b bs (rw q at e)) (le-max-right (tallyOf d bs .highest) (registerOf d b .write))
+  most (b ∷ bs) x (List·Memᴰ·tail m) e = most-behind (b .stopped) b bs (registerOf d x .write) refl (most bs x m e)
+
+  -- where none is counted the rank is 0
+  none-left : (l : List StorageBox) → length l ≡ 0 → highestWrite d l ≡ 0
+  unfolding highestWrite
+  none-left [] e = refl
+  none-left (b ∷ l) e = absurd (suc-ne-zero (length l) e)
+
+  none-counted : (bs : List StorageBox) → tallyOf d bs .count ≡ 0 → tallyOf d bs .highest ≡ 0
+  unfolding tallyOf
+  none-counted bs e = none-left (notStopped bs) e
+
+  -- where all have stopped none is counted
+  all-stopped : (bs : List StorageBox) → ((b : StorageBox) → List·Memᴰ b bs → b .stopped ≡ true) → tallyOf d bs .count ≡ 0
+  all-stopped [] h = ap (λ (t : Tally). t .count) tally-nil
+  all-stopped (b ∷ bs) h = ap (λ (t : Tally). t .count) (tally-stopped b bs (h b (List·Memᴰ·head refl))) ∙ all-stopped bs (λ x m. h x (List·Memᴰ·tail m))
+
+  -- some box that has not stopped has this write rank
+  abbrev Reached : List StorageBox → ℕ → Type 0
+  Reached bs r = (b : StorageBox) × (Counts bs b × (registerOf d b .write ≡ r))
+
+  reached-behind : (b : StorageBox) (bs : List StorageBox) (r : ℕ) → Reached bs r → Reached (b ∷ bs) r
+  reached-behind b bs r x = (x .0, (record { member = List·Memᴰ·tail (x .1 .0 .member); going = x .1 .0 .going }, x .1 .1))
+
+  -- the first box has the larger of two ranks, or one behind it
+  first-or-behind : (b : StorageBox) (bs : List StorageBox) (h : ℕ) (t : Bool) → ltb (registerOf d b .write) h ≡ t → b .stopped ≡ false → (0 < h → Reached bs h) → Reached (b ∷ bs) (max h (registerOf d b .write))
+  first-or-behind b bs h true l f k =
+      let lt : registerOf d b .write < h = ltb-true (registerOf d b .write) h l in
+      subst (Reached (b ∷ bs)) (sym (max-eq-left (le-of-lt lt))) (reached-behind b bs h (k (omega (arith, lt))))
+  first-or-behind b bs h false l f k = (b, (record { member = List·Memᴰ·head refl; going = f }, sym (max-eq-right (ltb-false (registerOf d b .write) h l))))
+
+  -- a rank above 0 is that of a box which is counted
+  some-counted : (bs : List StorageBox) → 0 < tallyOf d bs .highest → 0 < tallyOf d bs .count
+  some-counted bs p = by-count (eq-zero-or-pos (tallyOf d bs .count))
+    where
+      by-count : (tallyOf d bs .count ≡ 0) ⊎ (0 < tallyOf d bs .count) → 0 < tallyOf d bs .count
+      by-count (inl z) = absurd (omega (arith, p, none-counted bs z))
+      by-count (inr q) = q
+
+  reached-by : (s : Bool) (b : StorageBox) (bs : List StorageBox) → b .stopped ≡ s → (0 < tallyOf d bs .count → Reached bs (tallyOf d bs .highest))
+      → 0 < tallyOf d (b ∷ bs) .count → Reached (b ∷ bs) (tallyOf d (b ∷ bs) .highest)
+  reached-by true b bs e k p = rw (tally-stopped b bs e) (reached-behind b bs (tallyOf d bs .highest) (k (subst (λ (t : Tally). 0 < t .count) (tally-stopped b bs e) p)))
+  reached-by false b bs e k p = rw (tally-going b bs e) (first-or-behind b bs (tallyOf d bs .highest) (ltb (registerOf d b .write) (tallyOf d bs .highest)) refl e (λ q. k (some-counted bs q)))
+
+  reached : (bs : List StorageBox) → 0 < tallyOf d bs .count → Reached bs (tallyOf d bs .highest)
+  reached [] p = absurd (not-suc-le-zero (subst (λ (t : Tally). 0 < t .count) tally-nil p))
+  reached (b ∷ bs) p = reached-by (b .stopped) b bs refl (reached bs) p
 
 -- what a tally means
 pub tallied : TallyTheorem
 unfolding tallyOf
-tallied bs = record {
+tallied d bs = record {
   count = refl;
-  most = λ b c. most bs b (c .member) (c .going);
-  reached = reached bs;
-  none = λ h. (all-stopped bs h, none-counted bs (all-stopped bs h));
+  most = λ b c. most d bs b (c .member) (c .going);
+  reached = reached d bs;
+  none = λ h. (all-stopped d bs h, none-counted d bs (all-stopped d bs h));
 }

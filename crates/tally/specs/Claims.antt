@@ -4,6 +4,8 @@ use mathlib.Core.Path.{_≡_}
 use mathlib.Core.Bool.{true, false}
 use mathlib.Core.List.{List, List·Memᴰ}
 use lib.ListN.{length}
+use Rattle.register.specs.Register.{registerOf}
+use Rattle.register.specs.declared.Department.{Department}
 use Rattle.register.specs.declared.StorageBox.{StorageBox}
 use Rattle.tally.specs.Tally.{notStopped, tallyOf}
 use Rattle.tally.specs.declared.Tally.{Tally}
@@ -13,16 +15,16 @@ pub record Counts (bs : List StorageBox) (b : StorageBox) : Type 0 where
   pub member : List·Memᴰ b bs
   pub going : b .stopped ≡ false
 
--- the tally as facts
-pub record Tallied (bs : List StorageBox) (t : Tally) : Type 0 where
+-- the tally of a department as facts
+pub record Tallied (d : Department) (bs : List StorageBox) (t : Tally) : Type 0 where
   -- "how many have not stopped"
   pub count : t .count ≡ length (notStopped bs)
-  -- "the highest write rank among those": none of them has a higher one, and one of them has it
-  pub most : (b : StorageBox) → Counts bs b → b .register .write ≤ t .highest
-  pub reached : 0 < t .count → (b : StorageBox) × (Counts bs b × (b .register .write ≡ t .highest))
+  -- "the highest write rank among those", of the department's records: none of them has a higher one, and one of them has it
+  pub most : (b : StorageBox) → Counts bs b → registerOf d b .write ≤ t .highest
+  pub reached : 0 < t .count → (b : StorageBox) × (Counts bs b × (registerOf d b .write ≡ t .highest))
   -- "a run with none of these, or empty, gives 0 and 0"
   pub none : ((b : StorageBox) → List·Memᴰ b bs → b .stopped ≡ true) → (t .count ≡ 0) × (t .highest ≡ 0)
 
--- It holds of every run.
+-- It holds of each department and every run.
 abbrev pub TallyTheorem : Type 0
-TallyTheorem = (bs : List StorageBox) → Tallied bs (tallyOf bs)
+TallyTheorem = (d : Department) (bs : List StorageBox) → Tallied d bs (tallyOf d bs)

@@ -1,26 +1,29 @@
 -- Document 01, "The box routine": "A tally takes a lent run of box records and returns how many have not stopped and the highest
--- write rank among those; a run with none of these, or empty, gives 0 and 0."
+-- write rank among those; a run with none of these, or empty, gives 0 and 0." Wish 6 of document 02: "Each box keeps one record a
+-- department, and the tally is told which."
 use Prim.Native.Nat.{ℕ, _+_, max}
 use mathlib.Core.List.{List, [], _∷_}
 use lib.ListN.{length}
 use Rattle.base.specs.Choice.{if_then_else_}
+use Rattle.register.specs.Register.{registerOf}
+use Rattle.register.specs.declared.Department.{Department}
 use Rattle.register.specs.declared.StorageBox.{StorageBox}
 use Rattle.tally.specs.declared.Tally.{Tally}
 
--- the boxes of a run that have not stopped
+-- the boxes of a run that have not stopped, whichever the department. Wish 6: "Only box stops, n and m are shared."
 unfoldable pub notStopped : (run : List StorageBox) → List StorageBox
 notStopped [] = []
 notStopped (b ∷ bs) = if b .stopped then notStopped bs else b ∷ notStopped bs
 
--- the highest write rank of some boxes, 0 where there are none
-unfoldable pub highestWrite : (run : List StorageBox) → ℕ
-highestWrite [] = 0
-highestWrite (b ∷ bs) = max (highestWrite bs) (b .register .write)
+-- the highest write rank of the department's records in some boxes, 0 where there are none
+unfoldable pub highestWrite : (department : Department) (run : List StorageBox) → ℕ
+highestWrite d [] = 0
+highestWrite d (b ∷ bs) = max (highestWrite d bs) (registerOf d b .write)
 
--- "how many have not stopped and the highest write rank among those"
-unfoldable pub tallyOf : (run : List StorageBox) → Tally
-tallyOf bs = record { count = length (notStopped bs); highest = highestWrite (notStopped bs) }
+-- "how many have not stopped and the highest write rank among those": the tally of the department
+unfoldable pub tallyOf : (department : Department) (run : List StorageBox) → Tally
+tallyOf d bs = record { count = length (notStopped bs); highest = highestWrite d (notStopped bs) }
 
 -- a tally with one box more
-unfoldable pub oneMore : (b : StorageBox) (t : Tally) → Tally
-oneMore b t = if b .stopped then t else record { count = t .count + 1; highest = max (t .highest) (b .register .write) }
+unfoldable pub oneMore : (department : Department) (b : StorageBox) (t : Tally) → Tally
+oneMore d b t = if b .stopped then t else record { count = t .count + 1; highest = max (t .highest) (registerOf d b .write) }

@@ -21,4 +21,6 @@ file-refusal-spec =
     (λ c. on-false _ (search tests) (on-false _ (search tests) (on-false _ (search tests) (on-true _ (search tests) refl))))
     (λ c κs. search needs)
     (λ c. on-false _ (search tests) (on-false _ (search tests) (on-false _ (search tests) (on-false _ (search tests) (on-true _ (search tests) refl)))))
-    (λ c. on-false _ (search tests) (on-false _ (search tests) (on-false _ (search tests) (on-false _ (search tests) (on-false _ (search tests) refl))))))
+    (λ c κs. search needs)
+    (λ c. on-false _ (search tests) (on-false _ (search tests) (on-false _ (search tests) (on-false _ (search tests) (on-false _ (search tests) (on-true _ (search tests) refl))))))
+    (λ c. on-false _ (search tests) (on-false _ (search tests) (on-false _ (search tests) (on-false _ (search tests) (on-false _ (search tests) (on-false _ (search tests) refl)))))))

@@ -16,7 +16,7 @@ accepted c =
     (c .before .before .before .byte-at .ensures)
     (c .before .before .byte-at2 .ensures)
     (c .before .records-start .ensures)
-    (ap (λ (k : ℕ). k / 8) (c .after-label .ensures)))
+    (ap (λ (k : ℕ). k / 8) (c .after-header .ensures)))
 
 pub read-header-spec : {M : Type 1} → statement M
 read-header-spec =

@@ -1,31 +1,8 @@
-use mathlib.Core.Path.{_≡_, refl}
-use Prim.Native.Nat.{_≤_, _-_}
-use native.Mathlib.Omega.{arith}
 use borrow.Author.Needs.{needs}
-use lib.ListN.{length, drop}
-use Rattle.base.proofs.Tests.{tests}
-use Rattle.drill_file.specs.DrillFile.{wrongBytes}
-use Rattle.drill_file.proofs.FileLaws.{byte-wrong, byte-right, bytes-right}
+use Rattle.drill_file.specs.DrillFile.{wrongByte}
 use Rattle.drill_file.proofs.wrong_bytes.Statement.{statement}
 use Rattle.drill_file.proofs.wrong_bytes.Tie as tie
 
-abbrev Inv-loop : tie.InvT-loop
-Inv-loop s i₀ i = (i ≤ length s) × (wrongBytes (drop i s) ≡ wrongBytes s)
-
-abbrev μ-loop : tie.MeasureT-loop
-μ-loop s i₀ i = length s - i
-
 pub wrong-bytes-spec : {M : Type 1} → statement M
-wrong-bytes-spec =
-    tie.close
-    (tie.spec
-    Inv-loop
-    μ-loop
-    (λ c. (omega arith, refl))
-    (λ c. search needs)
-    (λ c κs. search needs)
-    (λ c. byte-wrong _ _ (c .before .before .before .before .loop .inv .1) (c .before .before .before .loop-test .taken) (search tests))
-    (λ c. search needs)
-    (λ c. search needs)
-    (λ c. (omega arith, byte-right _ _ (c .before .before .before .before .loop .inv .1) (c .before .before .before .loop-test .taken) (search tests)))
-    (λ c. bytes-right _ _ (c .before .loop .inv .1) (c .loop-test .left)))
+unfolding wrongByte
+wrong-bytes-spec = tie.close (tie.spec (λ c κs. search needs) (λ c. c .any-outside .ensures))

@@ -10,4 +10,4 @@ wrong-records-spec =
     (tie.spec
     (λ c κs. search needs)
     (λ c κs. search needs)
-    (λ c. rw (c .wrong-run .ensures, c .before .after-label .ensures)))
+    (λ c. rw (c .wrong-run .ensures, c .before .after-header .ensures)))

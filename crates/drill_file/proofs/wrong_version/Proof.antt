@@ -9,4 +9,5 @@ wrong-version-spec =
     tie.close
     (tie.spec
     (λ c κs. search needs)
-    (λ c. rw (c .byte-at .ensures)))
+    (λ c κs. search needs)
+    (λ c. rw (c .unknown-version .ensures, c .before .byte-at .ensures)))

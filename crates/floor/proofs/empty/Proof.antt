@@ -7,4 +7,5 @@ empty-spec =
     tie.close
     (tie.spec
     (λ c κs. search needs)
+    (λ c κs. search needs)
     (λ c. cc))

@@ -12,7 +12,8 @@ sound-spec =
     tie.close
     (tie.spec
     (λ c κs. search needs)
-    (λ c. on-false _ (search tests) (refl))
-    (λ c. on-true _ (search tests) (on-true _ (search tests) (refl)))
+    (λ c. on-false _ (search tests) refl)
     (λ c κs. search needs)
-    (λ c. on-true _ (search tests) (on-false _ (search tests) (c .stations-below .ensures))))
+    (λ c. on-true _ (search tests) (on-false _ (search tests) refl))
+    (λ c κs. search needs)
+    (λ c. on-true _ (search tests) (on-true _ (search tests) (c .share-sound2 .ensures))))

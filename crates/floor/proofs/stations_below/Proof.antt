@@ -8,10 +8,10 @@ use Rattle.floor.proofs.stations_below.Statement.{statement}
 use Rattle.floor.proofs.stations_below.Tie as tie
 
 abbrev Inv-loop : tie.InvT-loop
-Inv-loop f ok₀ k₀ ok k = (k ≤ f .used) × (ok ≡ stationsBelow (f .rows) (f .m) k)
+Inv-loop first used f ok₀ k₀ ok k = (k ≤ used) × (ok ≡ stationsBelow (f .rows) (f .m) first k)
 
 abbrev μ-loop : tie.MeasureT-loop
-μ-loop f ok₀ k₀ ok k = f .used - k
+μ-loop first used f ok₀ k₀ ok k = used - k
 
 pub stations-below-spec : {M : Type 1} → statement M
 unfolding stationsBelow
@@ -24,8 +24,9 @@ stations-below-spec =
     (λ c. omega arith)
     (λ c. omega arith)
     (λ c. omega arith)
+    (λ c. omega arith)
     (λ c κs. omega arith)
     (λ c. omega arith)
     (λ c. omega arith)
     (λ c. (omega arith, rw add-one (cc)))
-    (λ c. let e : c .before .loop .k ≡ c .before .before .args .t1 .used = omega arith in cc))
+    (λ c. let e : c .before .loop .k ≡ c .before .before .args .used = omega arith in cc))

@@ -27,14 +27,14 @@ abbrev entry : tie.After-drive → tie.Start
 entry x = start (reads (phases x))
 
 -- both phases are written
-written : (x : tie.After-put-phase2) → take (x .put-phase2 .result) (x .put-phase2 .last .0) ≡ flatten (exchangesOf (start (reads x) .args .f))
+written : (x : tie.After-put-phase2) → take (x .put-phase2 .result) (x .put-phase2 .last .0) ≡ flatten (exchangesOf (start (reads x) .args .f) (start (reads x) .args .s))
 written x =
     let r = reads x .put-phase in
     let w = x .put-phase2 in
-    plan-written (start (reads x) .args .f) (r .last .0) (w .last .0) (r .result) (w .result) _ (start (reads x) .pre .2) (r .ensures .1) (w .ensures .1)
+    plan-written (start (reads x) .args .f) (start (reads x) .args .s) (r .last .0) (w .last .0) (r .result) (w .result) _ (start (reads x) .pre .2) (r .ensures .1) (w .ensures .1)
 
 -- and run behind the begin
-ran : (x : tie.After-drive) → x .drive .result ≡ runOf End (entry x .args .f) (beginOf (entry x .args .f) (entry x .args .s) (entry x .args .v)) (exchangesOf (entry x .args .f))
+ran : (x : tie.After-drive) → x .drive .result ≡ runOf End (entry x .args .f) (beginOf (entry x .args .f) (entry x .args .s) (entry x .args .v)) (exchangesOf (entry x .args .f) (entry x .args .s))
 ran x = plan-run _ _ _ _ _ _ _ (entry x .pre .0) (entry x .pre .1) (x .before .before .encode .ensures) (written (phases x)) (x .drive .ensures .0)
 
 pub drive-spec : {M : Type 1} → statement M

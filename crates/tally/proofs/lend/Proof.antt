@@ -1,6 +1,6 @@
 -- `tally::lend` meets its contract: a walk of its MIR, by hand. The array is copied to memory and lent for a lifetime that is made
--- for the call; `tally_of` is given a slice of its first n boxes; then the array is taken back. Of `tally_of` the proof knows only
--- that it meets its contract.
+-- for the call; `tally_of` is given a slice of its first n boxes and the department; then the array is taken back. Of `tally_of` the
+-- proof knows only that it meets its contract.
 use mathlib.Core.Path.{_≡_, refl, sym}
 use Prim.Native.Nat.{ℕ, _≤_, _<_, _^_}
 use mathlib.Core.List.{List, [], _∷_}
@@ -38,8 +38,9 @@ use denote.Signature.Array.{arrayOf}
 use denote.Builtin.{usize}
 use denote.Plain.{uint-vals, uint-tells}
 use denote.Slice.{sliceTy, sliceVal, Room}
-use denote.Steps.{peeks, heard, nothing, only}
+use denote.Steps.{owned, peeks, heard, nothing, only}
 use denote.Struct.Laws as LL
+use denote.Enum.Laws as EL
 use borrow.Table.Owned as O
 use borrow.Table.Copies.{Halved, halved, cStruct}
 use borrow.Rule.Slice.Prefix.{shs-prefix-same}
@@ -51,8 +52,12 @@ use denote.Triple.Spec.{Meets, tripleOf}
 use denote.Triple.Table.{entered, cited}
 use denote.Triple.Walked.{says, needs, Stays, stay-dropped, walkOf, goes-dropped, Walks, ends-at, walked, walk-meets}
 use Rattle.tally.specs.Tally.{tallyOf}
+use Rattle.tally.proofs.DepartmentValues.{which, is-one}
+use Rattle.register.specs.declared.Department.{Department}
 use Rattle.register.specs.declared.StorageBox.{StorageBox}
 use Rattle.tally.specs.declared.Tally.{Tally}
+use Rattle.register.proofs.Department as D
+use Rattle.register.proofs.Department.Laws as D′
 use Rattle.register.proofs.StorageBox as B
 use Rattle.register.proofs.StorageBox.Laws as B′
 use Rattle.tally.proofs.Tally as T
@@ -73,7 +78,7 @@ abbrev AE : RattleType
 AE = Array E 16
 
 abbrev stayed : Stays (lend.ended .signature .params) (lend.ended .kept)
-stayed = (stay-dropped (arrayOf (plain (λ _. E)) 16) yes, (stay-dropped (plain (λ _. usize)) yes, tt))
+stayed = (stay-dropped (arrayOf (plain (λ _. E)) 16) yes, (stay-dropped (plain (λ _. usize)) yes, (stay-dropped (plain (λ _. D.the-row)) yes, tt)))
 
 abbrev array : Ty
 array = tyArray B′.mir 16
@@ -89,7 +94,7 @@ module _ {M : Type 1} (𝓤 : URA M) (H : Heap 𝓤) (A : Atoms 𝓤) (mem : Mem
   abbrev TallyOf : Contract 𝓤
   TallyOf = tripleOf 𝓤 H A tally-of.signature (tally-of.spec 𝓤 H A mem run)
 
-module _ {M : Type 1} (𝓤 : URA M) (H : Heap 𝓤) (A : Atoms 𝓤) (W : Given 𝓤 H A) (mem : Memory → SProp 𝓤) (run : Routine → Fun 𝓤) (xs : List StorageBox) (n : ℕ) (len : length xs ≡ 16) (few : n ≤ 16) where
+module _ {M : Type 1} (𝓤 : URA M) (H : Heap 𝓤) (A : Atoms 𝓤) (W : Given 𝓤 H A) (mem : Memory → SProp 𝓤) (run : Routine → Fun 𝓤) (xs : List StorageBox) (n : ℕ) (d : Department) (len : length xs ≡ 16) (few : n ≤ 16) where
   abbrev mach : Val
   mach = only (vals xs)
 
@@ -98,19 +103,19 @@ module _ {M : Type 1} (𝓤 : URA M) (H : Heap 𝓤) (A : Atoms 𝓤) (W : Given
   ys = take n xs
 
   abbrev at : Vals lend.signature tt
-  at = (mach ∷ [], (vint w64 n ∷ [], tt))
+  at = (mach ∷ [], (vint w64 n ∷ [], (which d ∷ [], tt)))
 
   abbrev bound : walkOf 𝓤 H A lend.ended stayed (lend.clauses 𝓤 H A mem run) .Ghost
-  bound = ((tt, tt, tt, (xs, (n, tt)), at), tt)
+  bound = ((tt, tt, tt, (xs, (n, (d, tt))), at), tt)
 
   abbrev Post : Val → SProp 𝓤
   Post = walkOf 𝓤 H A lend.ended stayed (lend.clauses 𝓤 H A mem run) .post bound
 
-  exits : (r : Tally) (v : Val) → r ≡ tallyOf ys → ent 𝓤 (sem 𝓤 H A (T.the-row .own r (v ∷ []))) (Post v)
+  exits : (r : Tally) (v : Val) → r ≡ tallyOf d ys → ent 𝓤 (sem 𝓤 H A (T.the-row .own r (v ∷ []))) (Post v)
   exits r v e =
       qed W (‵ (T.the-row .own r (v ∷ [])) ∷ []) ∵
-      suffices ! _ (ends-at 𝓤 H A lend.ended stayed (lend.clauses 𝓤 H A mem run) W bound v r (tt, (tt, tt)) (tt, (tt, tt))) $ says ! e $
-      nothing ! $ nothing ! $ nothing ! $ fjoin ! $ move ! (1 ∷ 0 ∷ []) $ fjoin ! $ nothing ! $ done !
+      suffices ! _ (ends-at 𝓤 H A lend.ended stayed (lend.clauses 𝓤 H A mem run) W bound v r (tt, (tt, (tt, tt))) (tt, (tt, (tt, tt)))) $ says ! e $
+      nothing ! $ nothing ! $ nothing ! $ nothing ! $ fjoin ! $ move ! (1 ∷ 0 ∷ []) $ fjoin ! $ move ! (1 ∷ 0 ∷ []) $ fjoin ! $ nothing ! $ done !
 
   -- the array in memory is a row of elements, and the row's memory is the array's
   abbrev Row : ℕ → Fml
@@ -164,55 +169,55 @@ module _ {M : Type 1} (𝓤 : URA M) (H : Heap 𝓤) (A : Atoms 𝓤) (W : Given
       x = record { ptr = (l, 0); name = γ; now = ys }
 
       abbrev to : TallyOf 𝓤 H A mem run .Ghost
-      to = (((α ∷ [], tt), (fullShare, tt), tt, (x, tt), (sliceVal (l, 0) (length ys) ∷ [], tt)), tt)
+      to = (((α ∷ [], tt), (fullShare, tt), tt, (x, (d, tt)), (sliceVal (l, 0) (length ys) ∷ [], (which d ∷ [], tt))), tt)
 
       goes : ent 𝓤 (sep 𝓤 (sem 𝓤 H A (Owns γ ys)) (A .lft (α ∷ []) fullShare)) (TallyOf 𝓤 H A mem run .pre to)
       goes = qed W (‵ (Owns γ ys) ∷ ‵ (flft (α ∷ []) fullShare) ∷ []) ∵
           fsplit ! $ feqI ! (List Val) (sliceVal (l, 0) (length ys) ∷ []) (sliceVal (l, 0) (length ys) ∷ []) refl $ fjoin ! $ fjoin ! $ move ! (1 ∷ 0 ∷ []) $
           -- [the token; what the slice owns]
-          nothing ! $ move ! (2 ∷ 0 ∷ []) $ fjoin ! $ nothing ! $ move ! (2 ∷ 0 ∷ []) $ join ! $ join ! $ frame ! $ done !
+          nothing ! $ owned ! D.the-row (Is D.the-row) (EL.makes D.the-type D′.the-plain 𝓤 H A) d _ (is-one d) $ fjoin ! $ move ! (2 ∷ 0 ∷ []) $ fjoin ! $ nothing ! $ move ! (2 ∷ 0 ∷ []) $ join ! $ join ! $ frame ! $ done !
 
-      said : (r : Tally) → ent 𝓤 (ensured 𝓤 H A tally-of.ended (tally-of.clauses 𝓤 H A mem run) (α ∷ [], tt) (x, tt) tt r) (fact 𝓤 (r ≡ tallyOf ys))
-      said r = exE 𝓤 _ (λ ws. snd∗ 𝓤 (sem 𝓤 H A (lasts tally-of.ended (α ∷ [], tt) (x, tt) ws)) (fact 𝓤 (r ≡ tallyOf ys)))
+      said : (r : Tally) → ent 𝓤 (ensured 𝓤 H A tally-of.ended (tally-of.clauses 𝓤 H A mem run) (α ∷ [], tt) (x, (d, tt)) tt r) (fact 𝓤 (r ≡ tallyOf d ys))
+      said r = exE 𝓤 _ (λ ws. snd∗ 𝓤 (sem 𝓤 H A (lasts tally-of.ended (α ∷ [], tt) (x, (d, tt)) ws)) (fact 𝓤 (r ≡ tallyOf d ys)))
 
   module _ (C : Calls 𝓤 H) (Λ : Loops 𝓤 H) (fm : FmC 𝓤 H (W .laws) C) (known : Triple 𝓤 (C #tally·tally-of) (TallyOf 𝓤 H A mem run)) where
-    walk : Holds (hasTy array mach) × WT mach → ent 𝓤 (onEntry 𝓤 H A lend.signature tt tt (xs, (n, tt)) at) (WpFn 𝓤 H C Λ code.function (mach ∷ vint w64 n ∷ []) Post)
+    walk : Holds (hasTy array mach) × WT mach → ent 𝓤 (onEntry 𝓤 H A lend.signature tt tt (xs, (n, (d, tt))) at) (WpFn 𝓤 H C Λ code.function (mach ∷ vint w64 n ∷ which d ∷ []) Post)
     walk wt =
-        qed W (‵ ftrue ∷ ‵ (owns (AE ∷ usize ∷ []) (xs, (n, tt)) at) ∷ []) ∵ enter ! C Λ code.function (mach ∷ vint w64 n ∷ []) _ $
-        alloc1 ! (λ l₀. alloc1 ! (λ l₁. alloc1 ! (λ l₂. alloc1 ! (λ l₃. alloc1 ! (λ l₄. alloc1 ! (λ l₅. alloc0 ! $ params1 ! $
-        pass1 ! (init ! 8 refl wt) $ pass1 ! (init ! 6 refl (tt, record { fits = fits })) $ pass0 ! $
-        assigns ! (of-opd ! (load ! (from ! (stop !)) (look ! 8 refl))) (from ! (stop !)) (init ! 4 refl wt) $
+        qed W (‵ ftrue ∷ ‵ (owns (AE ∷ usize ∷ D.the-row ∷ []) (xs, (n, (d, tt))) at) ∷ []) ∵ enter ! C Λ code.function (mach ∷ vint w64 n ∷ which d ∷ []) _ $
+        alloc1 ! (λ l₀. alloc1 ! (λ l₁. alloc1 ! (λ l₂. alloc1 ! (λ l₃. alloc1 ! (λ l₄. alloc1 ! (λ l₅. alloc1 ! (λ l₆. alloc0 ! $ params1 ! $
+        pass1 ! (init ! 10 refl wt) $ pass1 ! (init ! 8 refl (tt, record { fits = fits })) $ pass1 ! (init ! 6 refl (EL.lawful D.the-type D′.the-laws 𝓤 H A W tt .typed d _ (is-one d) .0)) $ pass0 ! $
+        assigns ! (of-opd ! (load ! (from ! (stop !)) (look ! 10 refl))) (from ! (stop !)) (init ! 4 refl wt) $
         assigns ! (addr ! (from ! (stop !))) (from ! (stop !)) (init ! 2 refl (tt, tt)) $
-        assigns ! (agg ! (and-then ! (load ! (from ! (stop !)) (look ! 2 refl)) (and-then ! (load ! (from ! (stop !)) (look ! 6 refl)) (no-more !)))) (from ! (stop !)) (init ! 0 refl (tt, (tt, (record { fits = fits }, tt)))) $
-        rewrite ! 0 (λ (k : ℕ). ‵ (fat fullShare slice l₅ 0 (sliceVal (l₃, 0) k))) count refl $
-        move ! (13 ∷ []) $ fsplit ! $ move ! (6 ∷ 0 ∷ []) $ use2 W (‵ (Row l₃)) (apart l₃) $
-        -- [the row; what n owns; _5; …; _4; …; that _3 dies; _2; …; _1; …; _0; …; true]
+        assigns ! (agg ! (and-then ! (load ! (from ! (stop !)) (look ! 2 refl)) (and-then ! (load ! (from ! (stop !)) (look ! 8 refl)) (no-more !)))) (from ! (stop !)) (init ! 0 refl (tt, (tt, (record { fits = fits }, tt)))) $
+        rewrite ! 0 (λ (k : ℕ). ‵ (fat fullShare slice l₆ 0 (sliceVal (l₄, 0) k))) count refl $
+        move ! (15 ∷ []) $ fsplit ! $ move ! (6 ∷ 0 ∷ []) $ use2 W (‵ (Row l₄)) (apart l₄) $
+        -- [the row; what n and d own; _6; …; _5; …; that _4 dies; _3; …; _2; …; _1; …; _0; …; true]
         lft-new ! tt (λ α. move ! (1 ∷ []) $
-        use1 W (later (some (λ (γ : GName). ‵ (Owns l₃ α γ xs) ⊛ ‵ (flent (α ∷ []) (Row l₃))))) (lends l₃ α) $
+        use1 W (later (some (λ (γ : GName). ‵ (Owns l₄ α γ xs) ⊛ ‵ (flent (α ∷ []) (Row l₄))))) (lends l₄ α) $
         await ! tt $ pick ! (λ γ. split ! $ move ! (0 ∷ 2 ∷ []) $
-        use2 W (later (some (λ (γ′ : GName). ‵ (Owns l₃ α γ′ ys) ⊛ ‵ (flft (α ∷ []) fullShare)))) (firsts l₃ α γ) $
-        await ! tt $ pick ! (λ γ′. split ! $ use2 W (raw (TallyOf 𝓤 H A mem run .pre (to l₃ α γ′))) (goes l₃ α γ′) $
-        -- [what is asked; what is lent; what n owns; _5; …; _4; …; that _3 dies; _2; …; _1; …; _0; …; true]
-        calls-at ! fm (TallyOf 𝓤 H A mem run) known (to l₃ α γ′) (and-then ! (load ! (from ! (stop !)) (look ! 3 refl)) (no-more !)) (λ v.
-        use1 W (later (some (λ (r : Tally). ((‵ (flft (α ∷ []) fullShare) ⊛ ‵ ftrue) ⊛ ‵ (T.the-row .own r (v ∷ []))) ⊛ raw (ensured 𝓤 H A tally-of.ended (tally-of.clauses 𝓤 H A mem run) (α ∷ [], tt) (x l₃ α γ′, tt) tt r)))) (id⊢ 𝓤 _) $ await ! tt $ pick ! (λ r.
-        split ! $ move ! (1 ∷ []) $ use1 W (raw (fact 𝓤 (r ≡ tallyOf ys))) (said l₃ α γ′ r) $ heard ! (r ≡ tallyOf ys) (λ e. split ! $ move ! (1 ∷ []) $
+        use2 W (later (some (λ (γ′ : GName). ‵ (Owns l₄ α γ′ ys) ⊛ ‵ (flft (α ∷ []) fullShare)))) (firsts l₄ α γ) $
+        await ! tt $ pick ! (λ γ′. split ! $ use2 W (raw (TallyOf 𝓤 H A mem run .pre (to l₄ α γ′))) (goes l₄ α γ′) $
+        -- [what is asked; what is lent; what n and d own; _6; …; _5; …; that _4 dies; _3; …; _2; …; _1; …; _0; …; true]
+        calls-at ! fm (TallyOf 𝓤 H A mem run) known (to l₄ α γ′) (and-then ! (load ! (from ! (stop !)) (look ! 3 refl)) (and-then ! (load ! (from ! (stop !)) (look ! 8 refl)) (no-more !))) (λ v.
+        use1 W (later (some (λ (r : Tally). ((‵ (flft (α ∷ []) fullShare) ⊛ ‵ ftrue) ⊛ ‵ (T.the-row .own r (v ∷ []))) ⊛ raw (ensured 𝓤 H A tally-of.ended (tally-of.clauses 𝓤 H A mem run) (α ∷ [], tt) (x l₄ α γ′, (d, tt)) tt r)))) (id⊢ 𝓤 _) $ await ! tt $ pick ! (λ r.
+        split ! $ move ! (1 ∷ []) $ use1 W (raw (fact 𝓤 (r ≡ tallyOf d ys))) (said l₄ α γ′ r) $ heard ! (r ≡ tallyOf d ys) (λ e. split ! $ move ! (1 ∷ []) $
         peeks ! T.the-row (Is T.the-row) (shows 𝓤 H A T.the-row) r (v ∷ []) (λ is.
-        -- [the result; the token; what is lent; what n owns; _5; …; _4; …; that _3 dies; _2; …; _1; …; _0; …; true]
-        land ! (from ! (stop !)) (init ! 13 refl (LL.lawful T.the-type T′.the-laws 𝓤 H A W .typed r _ is .0)) $
-        move ! (1 ∷ []) $ split ! $ lft-end ! tt $ move ! (0 ∷ 3 ∷ []) $ lent-back ! tt $ use1 W (‵ (froom array l₃ 0)) (emptied l₃) $
-        -- [room for _3; true; the result; what n owns; _5; …; _4; …; that _3 dies; _2; …; _1; …; _0; …; true]
-        returns ! (look ! 13 refl) $ forget ! 4 refl $ forget ! 6 refl $ forget ! 9 refl $ forget ! 11 refl $ forget ! 13 refl $
-        move ! (13 ∷ 14 ∷ []) $ free1 ! $ move ! (11 ∷ 12 ∷ []) $ free1 ! $ move ! (9 ∷ 10 ∷ []) $ free1 ! $ move ! (0 ∷ 8 ∷ []) $ free1 ! $
+        -- [the result; the token; what is lent; what n and d own; _6; …; _5; …; that _4 dies; _3; …; _2; …; _1; …; _0; …; true]
+        land ! (from ! (stop !)) (init ! 15 refl (LL.lawful T.the-type T′.the-laws 𝓤 H A W .typed r _ is .0)) $
+        move ! (1 ∷ []) $ split ! $ lft-end ! tt $ move ! (0 ∷ 3 ∷ []) $ lent-back ! tt $ use1 W (‵ (froom array l₄ 0)) (emptied l₄) $
+        -- [room for _4; true; the result; what n and d own; _6; …; _5; …; that _4 dies; _3; …; _2; …; _1; …; _0; …; true]
+        returns ! (look ! 15 refl) $ forget ! 4 refl $ forget ! 6 refl $ forget ! 9 refl $ forget ! 11 refl $ forget ! 13 refl $ forget ! 15 refl $
+        move ! (15 ∷ 16 ∷ []) $ free1 ! $ move ! (13 ∷ 14 ∷ []) $ free1 ! $ move ! (11 ∷ 12 ∷ []) $ free1 ! $ move ! (9 ∷ 10 ∷ []) $ free1 ! $ move ! (0 ∷ 8 ∷ []) $ free1 ! $
         move ! (5 ∷ 6 ∷ []) $ free1 ! $ move ! (3 ∷ 4 ∷ []) $ free1 ! $ free0 ! $
-        keep ! (1 ∷ []) $ by ! (exits r v e))))))))))))))
+        keep ! (1 ∷ []) $ by ! (exits r v e)))))))))))))))
 
 module _ {M : Type 1} (𝓤 : URA M) (H : Heap 𝓤) (A : Atoms 𝓤) (W : Given 𝓤 H A) (mem : Memory → SProp 𝓤) (run : Routine → Fun 𝓤) (𝓣 : Tables 𝓤 H) (known : Triple 𝓤 (𝓣 .C #tally·tally-of) (TallyOf 𝓤 H A mem run)) where
   walks : Walks 𝓤 H A lend.ended stayed (WpFn 𝓤 H (𝓣 .C) (𝓣 .Λ) code.function) (lend.clauses 𝓤 H A mem run)
-  walks = walked 𝓤 H A lend.ended stayed (lend.clauses 𝓤 H A mem run) (WpFn 𝓤 H (𝓣 .C) (𝓣 .Λ) code.function) (λ κs. (vals, (uint-vals w64, tt))) (λ κs. (array-tells E (LL.vals B.the-type B′.the-laws) (LL.tells B.the-type B′.the-laws) 16, (uint-tells w64, tt)))
-      (λ κs qs bounds a _ are. needs 𝓤 (a .1 .0 ≤ 16) _ (λ few. walk 𝓤 H A W mem run (a .0) (a .1 .0) (are .0 .1 .0 .1) few (𝓣 .C) (𝓣 .Λ) (fmOf 𝓤 H (W .laws) 𝓣) known (array-lawful 𝓤 H A W E (LL.lawful B.the-type B′.the-laws 𝓤 H A W) 16 .typed (a .0) _ (are .0) .0)))
+  walks = walked 𝓤 H A lend.ended stayed (lend.clauses 𝓤 H A mem run) (WpFn 𝓤 H (𝓣 .C) (𝓣 .Λ) code.function) (λ κs. (vals, (uint-vals w64, (EL.vals D.the-type D′.the-laws, tt)))) (λ κs. (array-tells E (LL.vals B.the-type B′.the-laws) (LL.tells B.the-type B′.the-laws) 16, (uint-tells w64, (EL.tells D.the-type D′.the-laws, tt))))
+      (λ κs qs bounds a _ are. needs 𝓤 (a .1 .0 ≤ 16) _ (λ few. walk 𝓤 H A W mem run (a .0) (a .1 .0) (a .1 .1 .0) (are .0 .1 .0 .1) few (𝓣 .C) (𝓣 .Λ) (fmOf 𝓤 H (W .laws) 𝓣) known (array-lawful 𝓤 H A W E (LL.lawful B.the-type B′.the-laws 𝓤 H A W) 16 .typed (a .0) _ (are .0) .0)))
 
   meets : Meets 𝓤 H A lend.signature (WpFn 𝓤 H (𝓣 .C) (𝓣 .Λ) code.function) (lend.spec 𝓤 H A mem run)
-  meets = walk-meets 𝓤 H A lend.ended stayed W (goes-dropped 𝓤 H A W 0 (arrayOf (plain (λ _. E)) 16) yes (λ κs y f. refl), (goes-dropped 𝓤 H A W 0 (plain (λ _. usize)) yes (λ κs y f. refl), tt)) (lend.clauses 𝓤 H A mem run) (WpFn 𝓤 H (𝓣 .C) (𝓣 .Λ) code.function) (WpFn-mono 𝓤 H (W .laws) 𝓣 code.function) walks
+  meets = walk-meets 𝓤 H A lend.ended stayed W (goes-dropped 𝓤 H A W 0 (arrayOf (plain (λ _. E)) 16) yes (λ κs y f. refl), (goes-dropped 𝓤 H A W 0 (plain (λ _. usize)) yes (λ κs y f. refl), (goes-dropped 𝓤 H A W 0 (plain (λ _. D.the-row)) yes (λ κs y f. refl), tt))) (lend.clauses 𝓤 H A mem run) (WpFn 𝓤 H (𝓣 .C) (𝓣 .Λ) code.function) (WpFn-mono 𝓤 H (W .laws) 𝓣 code.function) walks
 
 pub lend-spec : {M : Type 1} → stated.statement M
 unfolding code.routine tablesOf

@@ -11,10 +11,10 @@ use Rattle.tally.proofs.tally_floor.Statement.{statement}
 use Rattle.tally.proofs.tally_floor.Tie as tie
 
 abbrev Inv-loop : tie.InvT-loop
-Inv-loop n boxes t₀ left₀ t left = (left ≤ length (take n boxes)) × ((length boxes ≡ 9) × (t ≡ tallyOf (drop left (take n boxes))))
+Inv-loop n d boxes t₀ left₀ t left = (left ≤ length (take n boxes)) × ((length boxes ≡ 9) × (t ≡ tallyOf d (drop left (take n boxes))))
 
 abbrev μ-loop : tie.MeasureT-loop
-μ-loop n boxes t₀ left₀ t left = left
+μ-loop n d boxes t₀ left₀ t left = left
 
 -- no more than the nine boxes are taken
 few : (c : tie.At-loop Inv-loop μ-loop) → length (take (c .before .before .args .n) (c .before .before .args .t1)) ≤ 9
@@ -27,8 +27,9 @@ loop-holds : tie.Need-loop-holds Inv-loop μ-loop
 loop-holds c =
     let a = c .before .args in
     let nine : length (a .t1) ≡ 9 = omega arith in
-    let all : length (take (a .n) (a .t1)) ≡ c .at-most .result = length-take (a .n) (a .t1) ∙ ap (min (a .n)) nine ∙ sym (c .at-most .ensures) in
-    (omega (arith, all), (nine, tally-end (take (a .n) (a .t1)) (c .at-most .result) (omega (arith, all))))
+    let told : c .at-most .result ≡ min (a .n) 9 = c .at-most .ensures in
+    let all : length (take (a .n) (a .t1)) ≡ c .at-most .result = length-take (a .n) (a .t1) ∙ ap (min (a .n)) nine ∙ sym told in
+    (omega (arith, all), (nine, tally-end (a .d) (take (a .n) (a .t1)) (c .at-most .result) (omega (arith, all))))
 
 sub-left : tie.Need-sub-left Inv-loop μ-loop
 sub-left c = omega arith
@@ -43,7 +44,7 @@ with-box-requires : tie.Need-with-box-requires Inv-loop μ-loop
 with-box-requires c κs =
     let a = c .before .before .before .before .args in
     let l = c .before .before .loop in
-    count-fits (l .t) (drop (l .left) (take (a .n) (a .t1))) (l .inv .1 .1) (omega (arith, length-drop (l .left) (take (a .n) (a .t1)), few (c .before .before)))
+    count-fits (a .d) (l .t) (drop (l .left) (take (a .n) (a .t1))) (l .inv .1 .1) (omega (arith, length-drop (l .left) (take (a .n) (a .t1)), few (c .before .before)))
 
 loop-less : tie.Need-loop-less Inv-loop μ-loop
 loop-less c = omega arith
@@ -57,8 +58,8 @@ loop-again c =
       omega arith,
       (
         l .inv .1 .0,
-        tally-at (take (a .n) (a .t1)) (l .left) (l .left - 1) _ (l .t) (c .with-box .result) next (omega arith) (l .inv .1 .1)
-            (c .with-box .ensures ∙ ap (λ (b : StorageBox). oneMore b (l .t)) (sym (getD-take (a .n) (a .t1) (l .left - 1) _ inside))),
+        tally-at (a .d) (take (a .n) (a .t1)) (l .left) (l .left - 1) _ (l .t) (c .with-box .result) next (omega arith) (l .inv .1 .1)
+            (c .with-box .ensures ∙ ap (λ (b : StorageBox). oneMore (a .d) b (l .t)) (sym (getD-take (a .n) (a .t1) (l .left - 1) _ inside))),
       ),
     )
 
@@ -66,7 +67,7 @@ returns : tie.Need-returns Inv-loop μ-loop
 returns c =
     let a = c .before .before .before .args in
     let none-left : c .before .loop .left ≡ 0 = omega arith in
-    c .before .loop .inv .1 .1 ∙ ap (λ (m : ℕ). tallyOf (drop m (take (a .n) (a .t1)))) none-left
+    c .before .loop .inv .1 .1 ∙ ap (λ (m : ℕ). tallyOf (a .d) (drop m (take (a .n) (a .t1)))) none-left
 
 pub tally-floor-spec : {M : Type 1} → statement M
 tally-floor-spec =

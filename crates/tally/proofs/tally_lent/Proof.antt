@@ -18,7 +18,8 @@ returns : tie.Need-returns
 returns c =
     let a = c .before .before .args in
     let sixteen : 16 ≡ length (a .boxes) = omega arith in
-    c .lend .ensures ∙ ap (λ (m : ℕ). tallyOf (take m (a .boxes))) (c .before .at-most .ensures ∙ ap (min (a .n)) sixteen) ∙ ap tallyOf (take-min (a .n) (a .boxes))
+    let told : c .lend .result ≡ tallyOf (a .d) (take (c .before .at-most .result) (a .boxes)) = c .lend .ensures in
+    told ∙ ap (λ (m : ℕ). tallyOf (a .d) (take m (a .boxes))) (c .before .at-most .ensures ∙ ap (min (a .n)) sixteen) ∙ ap (tallyOf (a .d)) (take-min (a .n) (a .boxes))
 
 pub tally-lent-spec : {M : Type 1} → statement M
 tally-lent-spec = tie.close (tie.spec at-most-requires lend-requires returns)

@@ -10,6 +10,7 @@ start-spec =
     tie.close
     (tie.spec
     (λ c. search needs)
+    (λ c. search needs)
     (λ c. rw (c .before .enum-told .given .1) (on-true _ (search tests) refl))
     (λ c. search needs)
     (λ c. search needs)

@@ -1,0 +1,54 @@
+-- Document 02, wish 6: "Delete every step of one department from an accepted run: each step of the other is answered as before, with the same
+-- records." The proof is `deletion` in proofs/Deletion.
+use Prim.Native.Nat.{ℕ, _≤_, _<_}
+use mathlib.Core.Path.{_≡_}
+use mathlib.Core.Bool.{Bool, true, false}
+use mathlib.Core.List.{List, [], _∷_}
+use lib.ListN.{length, getD}
+use Rattle.base.specs.Choice.{if_then_else_}
+use Rattle.base.specs.Quorum.{count}
+use Rattle.register.specs.declared.Department.{Department}
+use Rattle.commands.specs.Commands.{commandOf}
+use Rattle.commands.specs.Outcomes.{isRefused}
+use Rattle.commands.specs.declared.Command.{Command}
+use Rattle.commands.specs.declared.Command.the-variants.{Begin, Serve, Deliver, Stop, Leave, Malformed}
+use Rattle.floor.specs.Floors.{boxAt}
+use Rattle.floor.specs.Departments.{belongs, SameFor}
+use Rattle.floor.specs.Runs.{floorAt, saidAt}
+use Rattle.floor.specs.declared.Floor.{Floor}
+use Rattle.agreement.specs.Words.{commandAt}
+use Rattle.agreement.specs.Demand.{firstFloor}
+
+-- The steps that are kept: those of the department d, and the box stops, which are shared.
+abbrev pub keeps : (f : Floor) (d : Department) (c : Command) → Bool
+keeps f d (Begin s round v) = belongs f d (Begin s round v)
+keeps f d (Serve p a b) = belongs f d (Serve p a b)
+keeps f d (Deliver p a b) = belongs f d (Deliver p a b)
+keeps f d (Stop b) = true
+keeps f d (Leave s) = belongs f d (Leave s)
+keeps f d Malformed = false
+
+-- the list without the others
+unfoldable pub keptOf : (f : Floor) (d : Department) (l : List (List ℕ)) → List (List ℕ)
+keptOf f d [] = []
+keptOf f d (r ∷ l) = if keeps f d (commandOf r) then r ∷ keptOf f d l else keptOf f d l
+
+-- how many of the first i steps are kept: the place of the step at i, if it is kept
+abbrev pub placeOf : (f : Floor) (d : Department) (l : List (List ℕ)) (i : ℕ) → ℕ
+placeOf f d l i = count (λ k. keeps f d (commandAt l k)) i
+
+pub record Deletion (f : Floor) (d : Department) (l : List (List ℕ)) : Type 0 where
+  -- nothing else is kept
+  pub size : length (keptOf f d l) ≡ placeOf f d l (length l)
+  -- a kept step is the same step, and says what it said
+  pub asked : (i : ℕ) → i < length l → keeps f d (commandAt l i) ≡ true → getD (keptOf f d l) (placeOf f d l i) [] ≡ getD l i []
+  pub said : (i : ℕ) → i < length l → keeps f d (commandAt l i) ≡ true → saidAt f (keptOf f d l) (placeOf f d l i) ≡ saidAt f l i
+  -- and behind it, as behind every other, that department's records in the boxes, its stations and its rows are what they were, and the
+  -- same boxes have stopped
+  pub same : (i : ℕ) → i ≤ length l → SameFor d (floorAt f l i) (floorAt f (keptOf f d l) (placeOf f d l i))
+  pub stopped : (i : ℕ) → i ≤ length l → (b : ℕ) → boxAt (floorAt f (keptOf f d l) (placeOf f d l i)) b .stopped ≡ boxAt (floorAt f l i) b .stopped
+
+-- of every run from a new floor in which every step was accepted
+abbrev pub DeletionTheorem : Type 0
+DeletionTheorem = (n m : ℕ) (departments : List ℕ) (l : List (List ℕ)) → ((i : ℕ) → i < length l → isRefused (saidAt (firstFloor n m departments) l i) ≡ false)
+    → (d : Department) → Deletion (firstFloor n m departments) d l

@@ -1,0 +1,44 @@
+-- Document 02, wish 6: to which department a step belongs, what a department has of a floor, and that a step of the other leaves it as it was.
+-- The proof is `department-claims` in proofs/DepartmentLaws.
+use Prim.Native.Nat.{ℕ}
+use mathlib.Core.Path.{_≡_}
+use mathlib.Core.Bool.{Bool, false}
+use mathlib.Core.List.{List}
+use Rattle.register.specs.Register.{isOf}
+use Rattle.register.specs.declared.Department.{Department}
+use Rattle.commands.specs.Commands.{commandOf}
+use Rattle.commands.specs.declared.Command.{Command}
+use Rattle.commands.specs.declared.Command.the-variants.{Begin, Serve, Deliver, Stop, Leave, Malformed}
+use Rattle.attempts.specs.Rows.{rowDepartment}
+use Rattle.floor.specs.Floors.{stationAt, rowAt, registerAt, departmentAt, shareOf, InUse, newFloorOf}
+use Rattle.floor.specs.Step.{stepOf}
+use Rattle.floor.specs.Claims.{Lengths}
+use Rattle.floor.specs.declared.Floor.{Floor}
+
+-- "A serve or delivery belongs to its row's department", a begin and a going to the station's; "Only box stops, n and m are shared"
+abbrev pub belongs : (f : Floor) (d : Department) (c : Command) → Bool
+belongs f d (Begin s round v) = isOf d (departmentAt f s)
+belongs f d (Serve p a b) = isOf d (rowDepartment a)
+belongs f d (Deliver p a b) = isOf d (rowDepartment a)
+belongs f d (Stop b) = false
+belongs f d (Leave s) = isOf d (departmentAt f s)
+belongs f d Malformed = false
+
+-- the floor g has of the department d what f has: "each step of the other is answered as before, with the same records"
+pub record SameFor (d : Department) (f g : Floor) : Type 0 where
+  pub registers : (b : ℕ) → registerAt g d b ≡ registerAt f d b
+  pub share : shareOf d g ≡ shareOf d f
+  pub rows : (a : ℕ) → rowDepartment a ≡ d → rowAt g a ≡ rowAt f a
+  pub stations : (s : ℕ) → departmentAt f s ≡ d → stationAt g s ≡ stationAt f s
+  pub departments : (s : ℕ) → departmentAt g s ≡ departmentAt f s
+
+-- Each row in use belongs to a station of its department: so on every floor that steps from a new one reach. On a floor built by hand a row may
+-- belong to a station of the other.
+abbrev pub Owned : (f : Floor) → Type 0
+Owned f = (a : ℕ) → InUse f a → departmentAt f (rowAt f a .station) ≡ rowDepartment a
+
+pub record DepartmentClaims : Type 0 where
+  pub new-owned : (n m : ℕ) (departments : List ℕ) → Owned (newFloorOf n m departments .floor)
+  pub owned : (f : Floor) (r : List ℕ) → Lengths f → Owned f → Owned (stepOf f r .floor)
+  -- a step that does not belong to the department changes nothing of it
+  pub untouched : (f : Floor) (r : List ℕ) (d : Department) → Owned f → belongs f d (commandOf r) ≡ false → SameFor d f (stepOf f r .floor)
