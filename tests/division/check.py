@@ -23,13 +23,14 @@ TOP = HERE.parents[1]
 OUT = TOP / "target" / "division-test"
 START = "solo::solo_finish"
 # What a walk that lost its way would not find.
-KNOWN = {"solo::round_above", "solo::put_record", "base::majority", "base::split32", "commands::encode", "commands::decode", "floor::run_sound", "floor::next_sound", "floor::free::better", "floor::free::all_served", "attempts::rows::waits_at", "parts::kinds::change", "parts::begin::larger", "requests::masks::count_below", "register::rmw_write"}
+KNOWN = {"solo::round_above", "solo::put_record", "base::majority", "base::split32", "commands::encode", "commands::decode", "floor::run_sound", "floor::next_sound", "floor::free::better", "floor::free::all_served", "floor::share_of", "attempts::rows::waits_at", "attempts::rows::department_of", "register::box_with", "parts::kinds::change", "parts::begin::larger", "requests::masks::count_below", "register::rmw_write"}
 # Calls of no function of the source: the number of ones of a number, and the length of a slice.
 BUILT_IN = {"u16::count_ones", "len"}
 WORDS = {"if", "while", "match", "return", "loop", "else", "let", "in", "as"}
 NAMES_DIVISION = re.compile(r"(?i)div|rem(_|$)|modulo")
-# What the code may call outside the module: copies, zeros, and the number of ones.
-OUTSIDE = re.compile(r"memcpy|memmove|memset|__aeabi_mem(cpy|move|clr)[48]?|llvm\.(memmove|memset|ctpop)\.[\w.]+")
+# What the code may call outside the module: copies, zeros, the number of ones, and the product of two numbers of 64 bits, by which a
+# Cortex-M0 finds the place of a box or of a station in the code as it stands.
+OUTSIDE = re.compile(r"memcpy|memmove|memset|__aeabi_mem(cpy|move|clr)[48]?|__aeabi_lmul|llvm\.(memmove|memset|ctpop)\.[\w.]+")
 # The machines, and on each the instructions that go elsewhere: x86-64, and a Cortex-M0.
 JUMPS = {"x86_64-unknown-linux-gnu": r"call\w*|j\w+", "thumbv6m-none-eabi": r"b|bl|blx|bx|b(eq|ne|hs|lo|mi|pl|vs|vc|hi|ls|ge|lt|gt|le)"}
 BUILDS = [(target, level) for target in JUMPS for level in ("-O0", "-O3")]
@@ -142,7 +143,7 @@ def links(source, target, *but):
 
 
 PROGRAM = """fn main() {
-    let made = floor::new_floor(3, 2);
+    let made = floor::new_floor(3, 2, &[0, 1]);
     let f = made.floor;
     let done = solo::solo_finish(f, 1, 9);
 }

@@ -1,15 +1,17 @@
-//! compare PROGRAM COUNT SEED FOLDER [coverage]: runs PROGRAM on COUNT generated drill files and compares what it prints with the
-//! reference, byte for byte; on each played file it also looks for demand 3's safety claims in the reference's trace. A file on
-//! which something differs is left in FOLDER.
+//! compare PROGRAM COUNT SEED FOLDER [coverage|CLAIM]: runs PROGRAM on COUNT generated drill files and compares what it prints with the
+//! reference, byte for byte; on each played file it also looks for demand 3's safety claims, within each department, in the reference's
+//! trace. Each version 2 file with accepted steps of both departments is run twice more, its accepted steps without those of one of them:
+//! the stations of the other have to print what they printed. The first file on which something differs is left in FOLDER. With the name of
+//! a CLAIM that is the first file that breaks it.
 mod generate;
 mod reference;
 
-use reference::{decode, Answer, Floor, Parts, Phase, Played, Request, Said, State, Step, ROWS};
+use reference::{decode, Answer, Attempt, Department, Floor, Parts, Phase, Played, Request, Said, State, Step, DEPARTMENTS, ROWS};
 use std::collections::{BTreeMap, BTreeSet};
 use std::io::Write;
 use std::path::Path;
 use std::process::{Command, Stdio};
-use std::sync::atomic::{AtomicBool, Ordering};
+use std::sync::atomic::{AtomicU64, Ordering};
 use std::time::Duration;
 
 /// What the files of a comparison reached: how many files for each thing reached.
@@ -22,40 +24,49 @@ fn main() {
     let seed: u64 = words[3].parse().expect("SEED is a number");
     assert_eq!(reference::report(&document_example()), DOCUMENT_LINES, "the reference does not print document 01's example");
     let workers = std::thread::available_parallelism().map_or(1, |n| n.get()) as u64;
-    let failed = AtomicBool::new(false);
-    let work = |worker: u64| {
+    let wanted = words.get(5).filter(|word| *word != "coverage").map(|claim| format!(" breaks {claim}: "));
+    let differs = |why: &String| wanted.as_ref().map_or(true, |claim| why.contains(claim));
+    // the lowest number of a file on which something differs
+    let lowest = AtomicU64::new(u64::MAX);
+    let work = &|worker: u64| {
         let mut reached = Coverage::new();
         for number in (worker..count).step_by(workers as usize) {
-            if failed.load(Ordering::Relaxed) {
+            if number > lowest.load(Ordering::Relaxed) {
                 break;
             }
-            let file = generate::file(seed, number);
-            if let Err(why) = compare(program, &file, number, &mut reached) {
-                if !failed.swap(true, Ordering::Relaxed) {
-                    println!("drill: file {number} of seed {seed}: {why}");
-                    leave(folder, number, &file, &why);
-                }
+            let said = compare(program, &generate::file(seed, number), number, &mut reached);
+            if let Some(why) = said.err().filter(differs) {
+                lowest.fetch_min(number, Ordering::Relaxed);
+                return (reached, Some((number, why)));
             }
         }
-        reached
+        (reached, None)
     };
     let mut reached = Coverage::new();
+    let mut wrong: Vec<(u64, String)> = Vec::new();
     std::thread::scope(|scope| {
         let threads: Vec<_> = (0..workers).map(|w| scope.spawn(move || work(w))).collect();
         for t in threads {
-            for (what, times) in t.join().expect("a worker ends") {
+            let (by_worker, first) = t.join().expect("a worker ends");
+            wrong.extend(first);
+            for (what, times) in by_worker {
                 *reached.entry(what).or_insert(0) += times;
             }
         }
     });
-    if failed.load(Ordering::Relaxed) {
+    if let Some((number, why)) = wrong.iter().min() {
+        println!("drill: file {number} of seed {seed}: {why}");
+        leave(folder, *number, &generate::file(seed, *number), why);
         std::process::exit(1);
     }
-    if words.get(5).is_some() {
+    if words.get(5).is_some_and(|word| word == "coverage") {
         for (what, files) in &reached {
             println!("{files:6} {what}");
         }
     }
+    let [sails, canvas] = DEPARTMENTS.map(|d| reached.get(&taken_out(d)).copied().unwrap_or(0) as u64);
+    assert!(count < 1000 || 8 * sails.min(canvas) >= count, "only {sails} and {canvas} files were run without one department's steps");
+    println!("drill: {sails} files run again without the steps of sails, {canvas} without those of canvas");
     println!("drill: {count} files compared");
 }
 
@@ -82,20 +93,38 @@ fn leave(folder: &Path, number: u64, file: &[u8], why: &str) {
 }
 
 fn compare(program: &str, file: &[u8], number: u64, reached: &mut Coverage) -> Result<(), String> {
-    let expected = match reference::parts(file) {
+    cover_head(file, reached);
+    let pieces = number % 64 == 5;
+    let parts = match reference::parts(file) {
+        Ok(parts) => parts,
         Err(refusal) => {
             note(reached, &format!("refusal {refusal:2}"));
-            reference::report(file)
-        }
-        Ok(parts) => {
-            let played = reference::play(&parts);
-            claims(&played).map_err(|claim| format!("the reference's own trace breaks {claim}"))?;
-            cover(&played, reached);
-            cover_rows(&parts, &played, reached);
-            reference::lines(&parts, &played)
+            return prints(program, file, pieces, &reference::report(file));
         }
     };
-    let printed = run(program, file, number % 64 == 5)?;
+    let played = reference::play(&parts);
+    let in_trace = |claim| format!("the reference's own trace breaks {claim}");
+    claims(&played).map_err(in_trace)?;
+    cover(&played, reached);
+    cover_rows(&parts, &played, reached);
+    cover_numbers(&parts, &played, reached);
+    cover_departments(&parts, &played, reached);
+    let lines = reference::lines(&parts, &played);
+    prints(program, file, pieces, &lines)?;
+    for out in DEPARTMENTS.into_iter().filter(|_| parts.version == 2) {
+        let left = left(&parts, &played, out);
+        if left.len() < played.trace.len() && left.iter().any(|(step, _)| !matches!(step, Step::Stop { .. })) {
+            cover_deletion(&played, &left, out, reached);
+            let (short, expected) = without(file, &parts, &lines, &left, out);
+            prints(program, &short, false, &expected).map_err(|why| format!("the program breaks deletion: without {out:?}: {why}"))?;
+        }
+        deletion(&parts, &played, &left, out).map_err(in_trace)?;
+    }
+    Ok(())
+}
+
+fn prints(program: &str, file: &[u8], pieces: bool, expected: &str) -> Result<(), String> {
+    let printed = run(program, file, pieces)?;
     if printed != expected.as_bytes() {
         return Err(format!("expected\n{expected}printed\n{}", String::from_utf8_lossy(&printed)));
     }
@@ -125,47 +154,128 @@ fn run(program: &str, file: &[u8], pieces: bool) -> Result<Vec<u8>, String> {
     Ok(output.stdout)
 }
 
-/// Demand 3's safety claims on the whole history, read off the accepted steps and what they said: an attempt is its begin, and a number
-/// means its last begin. An error starts with the name of the claim.
+/// Whether a step is one of that department: a begin and a gone by its station, a serve and a delivery by the number of its row. A box
+/// stop is of neither.
+fn belongs(step: Step, stations: &[Department], department: Department) -> bool {
+    match step {
+        Step::Begin { station, .. } | Step::Gone { station } => stations[station] == department,
+        Step::Serve { attempt, .. } | Step::Deliver { attempt, .. } => (attempt < 64) == (department == Department::Sails),
+        Step::Stop { .. } => false,
+    }
+}
+
+/// The words under which the files are counted that were run without the steps of that department.
+fn taken_out(out: Department) -> String {
+    format!("deletion: {out:?} taken out")
+}
+
+/// The accepted steps of a file but those of that department, with what each of them said.
+fn left(parts: &Parts, played: &Played, out: Department) -> Vec<(Step, Said)> {
+    let stations = parts.stations();
+    played.trace.iter().copied().filter(|(step, _)| !belongs(*step, &stations, out)).collect()
+}
+
+/// Document 02, wish 6, the deletion: the file of the steps left, and what the program has to print on it. All of them are accepted, a
+/// station of the other department stands as it stood, and one of the department taken out has done nothing.
+fn without(file: &[u8], parts: &Parts, lines: &str, left: &[(Step, Said)], out: Department) -> (Vec<u8>, String) {
+    let mut short = file[..file.len() - 8 * parts.records.len()].to_vec();
+    short.extend(left.iter().flat_map(|(step, _)| generate::encode(*step)));
+    generate::sign(&mut short);
+    let mut expected: Vec<String> = lines.lines().map(String::from).collect();
+    for (s, department) in parts.stations().into_iter().enumerate() {
+        if department == out {
+            expected[1 + s] = format!("station {s} idle 0 0");
+        }
+    }
+    expected[1 + parts.m] = format!("end {} 0\n", left.len());
+    (short, expected.join("\n"))
+}
+
+/// The same on the reference: each step left says what it said, and behind the last the records of the other department in the boxes, its
+/// stations and its rows are what they were.
+fn deletion(parts: &Parts, played: &Played, left: &[(Step, Said)], out: Department) -> Result<(), String> {
+    let (mut floor, was) = (Floor::new(parts.n, &parts.stations()), &played.floor);
+    for (step, said) in left {
+        let now = floor.step(*step);
+        if now != Ok(*said) {
+            return Err(format!("deletion: without {out:?} {step:?} gives {now:?} in place of {said:?}"));
+        }
+    }
+    let other = DEPARTMENTS[1 - out as usize];
+    let boxes = was.boxes.iter().zip(&floor.boxes).all(|(a, b)| a.stopped == b.stopped && a.register(other) == b.register(other));
+    let stations = was.stations.iter().zip(&floor.stations).all(|(a, b)| a.department == out || a == b);
+    let rows = was.rows.range(other.rows()).eq(floor.rows.range(other.rows()));
+    if boxes && stations && rows { Ok(()) } else { Err(format!("deletion: without {out:?} another floor of {other:?} is left")) }
+}
+
+/// The history of a department: station, rank and offered revision of each attempt, the highest rank served, and what each station decided.
+#[derive(Default)]
+struct History {
+    begun: Vec<(usize, u32, u32)>,
+    highest_served: u32,
+    decided: Vec<(usize, u32)>,
+}
+
+/// Demand 3's safety claims on the whole history of each department, read off the accepted steps and what they said: an attempt is its
+/// begin, its department that of its station, and a number means its last begin. An error starts with the name of the claim.
 fn claims(played: &Played) -> Result<(), String> {
-    let mut begun: Vec<(usize, u32, u32)> = Vec::new(); // station, rank, offered revision of each attempt
-    let mut last: Vec<usize> = Vec::new(); // the attempt that each number means: its last begin
-    let mut highest_served = 0;
-    let mut decided: Vec<(usize, u32)> = Vec::new(); // station, revision
+    let department = |station: usize| played.floor.stations[station].department;
+    let mut histories: [History; 2] = Default::default();
+    // the attempt that each number means: its department and its place in that history
+    let mut last: BTreeMap<usize, (usize, usize)> = BTreeMap::new();
     for (step, said) in &played.trace {
         match (*step, *said) {
             (Step::Begin { station, round, revision }, Said::Begun(number)) => {
-                match last.get_mut(number) {
-                    Some(attempt) if begun.len() >= 64 => *attempt = begun.len(),
-                    None if number == begun.len() => last.push(number),
-                    _ => return Err(format!("the order of attempts: {number} is begun out of order")),
-                }
-                begun.push((station, round * 16 + station as u32, revision));
+                let of = department(station);
+                let history = &mut histories[of as usize];
+                in_order(number, of, history.begun.len())?;
+                last.insert(number, (of as usize, history.begun.len()));
+                history.begun.push((station, round * 16 + station as u32, revision));
             }
-            (Step::Serve { attempt, .. }, Said::Served(_)) => highest_served = highest_served.max(begun[last[attempt]].1),
-            (Step::Deliver { phase: Phase::Write, attempt, .. }, Said::Decided(revision)) => {
-                if let Some((_, other)) = decided.iter().find(|(_, v)| *v != revision) {
-                    return Err(format!("agreement: {other} and {revision} are both decided"));
-                }
-                if !begun.iter().any(|(_, _, offer)| *offer == revision) {
-                    return Err(format!("validity: {revision} is decided and was not offered before"));
-                }
-                decided.push((begun[last[attempt]].0, revision));
+            (Step::Serve { attempt, .. }, Said::Served(_)) => {
+                let (of, at) = last[&attempt];
+                let history = &mut histories[of];
+                history.highest_served = history.highest_served.max(history.begun[at].1);
+            }
+            (Step::Deliver { attempt, .. }, Said::Decided(revision)) => {
+                let (of, at) = last[&attempt];
+                decides(&mut histories[of], at, revision)?;
             }
             (Step::Deliver { attempt, .. }, Said::Aborted(_)) => {
-                if highest_served <= begun[last[attempt]].1 {
-                    return Err(format!("abort: attempt {attempt} aborts, and no higher rank was served before"));
+                let (of, at) = last[&attempt];
+                if histories[of].highest_served <= histories[of].begun[at].1 {
+                    return Err(format!("abort: attempt {attempt} aborts, and no higher rank of its department was served before"));
                 }
             }
             _ => {}
         }
     }
     for (number, s) in played.floor.stations.iter().enumerate() {
+        let decided = &histories[s.department as usize].decided;
         let said = decided.iter().find(|(station, _)| *station == number).map(|(_, v)| *v);
         if s.decided != said {
             return Err(format!("shown: station {number} shows {:?} and {said:?} was said", s.decided));
         }
     }
+    Ok(())
+}
+
+/// The numbers of a department's attempts are in order up to its 64th; from then on each is one of them.
+fn in_order(number: usize, department: Department, begun: usize) -> Result<(), String> {
+    let first = if department == Department::Sails { 0 } else { 64 };
+    let right = if begun < 64 { number == first + begun } else { (first..first + 64).contains(&number) };
+    if right { Ok(()) } else { Err(format!("the order of attempts: {number} is begun out of order")) }
+}
+
+/// Agreement and validity at a decision of an attempt of that department.
+fn decides(history: &mut History, attempt: usize, revision: u32) -> Result<(), String> {
+    if let Some((_, other)) = history.decided.iter().find(|(_, v)| *v != revision) {
+        return Err(format!("agreement: {other} and {revision} are both decided"));
+    }
+    if !history.begun.iter().any(|(_, _, offer)| *offer == revision) {
+        return Err(format!("validity: {revision} is decided and was not offered before in its department"));
+    }
+    history.decided.push((history.begun[attempt].0, revision));
     Ok(())
 }
 
@@ -180,9 +290,10 @@ fn cover(played: &Played, reached: &mut Coverage) {
     let decided = times(&|s| matches!(s, Said::Decided(_)));
     let aborted = times(&|s| matches!(s, Said::Aborted(_)));
     note(reached, &format!("refusal {:2}", played.refusal));
+    let used = DEPARTMENTS.into_iter().any(|d| floor.used(d) == ROWS);
     let mut all = vec![
-        ("64 rows used", floor.rows.len() == ROWS),
-        ("64 rows used and a decision", floor.rows.len() == ROWS && decided > 0),
+        ("64 rows used", used),
+        ("64 rows used and a decision", used && decided > 0),
         ("decided", decided > 0),
         ("decided by two stations or more", decided > 1),
         ("aborted", aborted > 0),
@@ -197,11 +308,11 @@ fn cover(played: &Played, reached: &mut Coverage) {
     let (mut late, mut adopted, mut differ) = (false, false, false);
     let mut at_a_read = [0, 0]; // aborts at the first answer to a read, and at a later one
     // of the attempt last begun in each row: its station, its offer, answers to its reads that were received, whether it is over
-    let mut of_station = vec![0; floor.rows.len()];
-    let mut offer = vec![0; floor.rows.len()];
-    let mut read = vec![0; floor.rows.len()];
-    let mut over = vec![false; floor.rows.len()];
-    let mut writes: Vec<u32> = Vec::new();
+    let mut of_station = [0; 2 * ROWS];
+    let mut offer = [0; 2 * ROWS];
+    let mut read = [0; 2 * ROWS];
+    let mut over = [false; 2 * ROWS];
+    let mut writes: [Vec<u32>; 2] = Default::default();
     for (step, said) in &played.trace {
         if let (Step::Begin { station, revision, .. }, Said::Begun(row)) = (*step, *said) {
             (of_station[row], offer[row], read[row], over[row]) = (station, revision, 0, false);
@@ -226,6 +337,7 @@ fn cover(played: &Played, reached: &mut Coverage) {
             }
             (Step::Deliver { attempt, .. }, Said::WriteIssued(v)) => {
                 adopted |= v != offer[attempt];
+                let writes = &mut writes[Department::of_row(attempt) as usize];
                 differ |= writes.iter().any(|w| *w != v);
                 writes.push(v);
             }
@@ -238,8 +350,9 @@ fn cover(played: &Played, reached: &mut Coverage) {
     all.push(("aborted at the first answer to a read", at_a_read[0] > 0));
     all.push(("aborted at a later answer to a read", at_a_read[1] > 0));
     all.push(("aborted at a read and at a write", at_a_read[0] + at_a_read[1] > 0 && aborted > at_a_read[0] + at_a_read[1]));
-    all.push(("an outranked answer received behind the write", floor.rows.iter().any(|a| a.written.is_some() && a.reads.iter().any(outranked))));
-    all.push(("a second outranked answer received", floor.rows.iter().any(|a| a.reads.iter().filter(|r| outranked(r)).count() > 1)));
+    let any = |f: &dyn Fn(&Attempt) -> bool| floor.rows.values().any(f);
+    all.push(("an outranked answer received behind the write", any(&|a| a.written.is_some() && a.reads.iter().any(outranked))));
+    all.push(("a second outranked answer received", any(&|a| a.reads.iter().filter(|r| outranked(r)).count() > 1)));
     for (what, holds) in all {
         if holds {
             note(reached, what);
@@ -262,17 +375,19 @@ struct Row {
 
 /// What a played file reached of rows given back. Its steps are played again, the refused one too.
 fn cover_rows(parts: &Parts, played: &Played, reached: &mut Coverage) {
-    let begins = played.trace.iter().filter(|(step, _)| matches!(step, Step::Begin { .. })).count();
-    if begins < ROWS {
+    let stations = parts.stations();
+    let begins = DEPARTMENTS.map(|d| begun(played, d).len());
+    let many = begins.into_iter().max().unwrap_or(0);
+    if many < ROWS {
         return;
     }
     let mut all: BTreeSet<String> = BTreeSet::new();
-    let mut floor = Floor::new(parts.n, parts.m);
-    let mut rows = vec![Row::default(); ROWS];
+    let mut floor = Floor::new(parts.n, &stations);
+    let mut rows = vec![Row::default(); 2 * ROWS];
     for record in parts.records.clone().take(played.trace.len() + 1) {
         let Ok(step) = decode(record) else { break };
         match step {
-            Step::Begin { .. } if floor.rows.len() == ROWS => cover_begin(step, &mut floor, &mut rows, &mut all),
+            Step::Begin { station, .. } => cover_begin(step, station, &mut floor, &mut rows, &mut all),
             Step::Gone { station } => {
                 let state = floor.stations.get(station).map(|s| s.state);
                 if let (Ok(_), Some(State::Reading(row) | State::Writing(row))) = (floor.step(step), state) {
@@ -283,7 +398,7 @@ fn cover_rows(parts: &Parts, played: &Played, reached: &mut Coverage) {
                 }
             }
             Step::Stop { .. } => {
-                let free = |floor: &Floor| (0..floor.rows.len()).filter(|row| floor.free(*row)).count();
+                let free = |floor: &Floor| floor.rows.keys().filter(|row| floor.free(**row)).count();
                 let before = free(&floor);
                 if floor.step(step).is_ok() && free(&floor) > before {
                     all.insert("a row free as a box stops".to_string());
@@ -315,7 +430,8 @@ fn cover_rows(parts: &Parts, played: &Played, reached: &mut Coverage) {
                     ("a delivery to the new attempt where an answer was dropped", said.is_ok() && dropped),
                     ("a delivery to the new attempt, the former station gone", said.is_ok() && gone),
                     ("refusal 14 to a delivery", said == Err(14)),
-                    ("refusal 14 to a delivery where an answer was dropped", said == Err(14) && dropped),
+                    ("refusal 14 to a delivery where a read's answer was dropped", said == Err(14) && dropped && phase == Phase::Read),
+                    ("refusal 14 to a delivery where a write's answer was dropped", said == Err(14) && dropped && phase == Phase::Write),
                     ("a decision of the new attempt", matches!(said, Ok(Said::Decided(_)))),
                     ("an abort of the new attempt", matches!(said, Ok(Said::Aborted(_)))),
                 ] {
@@ -324,18 +440,18 @@ fn cover_rows(parts: &Parts, played: &Played, reached: &mut Coverage) {
                     }
                 }
             }
-            _ => drop(floor.step(step)),
         }
     }
+    cover_sides(&stations, begins, &mut all);
     let most = rows.iter().map(|row| row.times).max().unwrap_or(0);
     for (what, holds) in [
-        ("65 attempts or more", begins > ROWS),
-        ("200 attempts or more", begins >= 200),
-        ("500 attempts or more", begins >= 500),
-        ("800 attempts or more", begins >= 800),
+        ("65 attempts or more", many > ROWS),
+        ("200 attempts or more", many >= 200),
+        ("500 attempts or more", many >= 500),
+        ("800 attempts or more", many >= 800),
         ("given back: a row, twice or more", most >= 2),
         ("given back: a row, ten times or more", most >= 10),
-        ("given back: each row", rows.iter().all(|row| row.times > 0)),
+        ("given back: each row", rows.chunks(ROWS).any(|of| of.iter().all(|row| row.times > 0))),
     ] {
         if holds {
             all.insert(what.to_string());
@@ -346,27 +462,62 @@ fn cover_rows(parts: &Parts, played: &Played, reached: &mut Coverage) {
     }
 }
 
-/// A begin with 64 rows used: which rows are free, which with a smaller rank are not and for what one cause, and what is dropped.
-fn cover_begin(step: Step, floor: &mut Floor, rows: &mut [Row], all: &mut BTreeSet<String>) {
-    let (next, was) = (floor.next_row(), floor.clone());
+/// The attempts that a department began: station and round of each.
+fn begun(played: &Played, department: Department) -> Vec<(usize, u32)> {
+    let of = |station: usize| played.floor.stations[station].department == department;
+    let begin = |(step, _): &(Step, Said)| match *step {
+        Step::Begin { station, round, .. } if of(station) => Some((station, round)),
+        _ => None,
+    };
+    played.trace.iter().filter_map(begin).collect()
+}
+
+/// What the departments of a file reached together of rows given back, from the numbers of their attempts.
+fn cover_sides(stations: &[Department], begins: [usize; 2], all: &mut BTreeSet<String>) {
+    if !DEPARTMENTS.iter().all(|d| stations.contains(d)) {
+        return;
+    }
+    for (one, other) in [(0, 1), (1, 0)] {
+        let what = match begins[other] {
+            _ if begins[one] <= ROWS => continue,
+            0 => "none begun in the other",
+            1..=ROWS => "none given back in the other",
+            _ => continue,
+        };
+        all.insert(format!("departments: rows given back in {:?}, {what}", DEPARTMENTS[one]));
+    }
+    if begins.iter().all(|begun| *begun > ROWS) {
+        all.insert("departments: rows given back in both, more than 64 attempts in each".to_string());
+    }
+}
+
+/// A begin: which rows of its department are free, which with a smaller rank are not and for what one cause, and what is dropped.
+fn cover_begin(step: Step, station: usize, floor: &mut Floor, rows: &mut [Row], all: &mut BTreeSet<String>) {
+    let department = floor.stations.get(station).map_or(Department::Sails, |s| s.department);
+    let other = DEPARTMENTS[1 - department as usize];
+    let next = floor.next_row(department);
+    let was = if floor.used(department) == ROWS { Some(floor.clone()) } else { None };
     let said = floor.step(step);
+    if said.is_ok() && floor.next_row(other).is_none() {
+        all.insert(format!("departments: {department:?} begins, no row of {other:?} unused or free"));
+    }
+    let Some(was) = was else { return };
     let Some(taken) = next.filter(|_| said.is_ok()) else {
         if let (Err(refusal), None) = (said, next) {
             all.insert(format!("64 rows used, none free: refusal {refusal:2} to a begin"));
-            kept(&was, u32::MAX, all);
+            kept(&was, department, u32::MAX, all);
         }
         return;
     };
-    let (old, free) = (&was.rows[taken], (0..ROWS).filter(|row| was.free(*row)).count());
-    kept(&was, old.rank, all);
+    let (old, free) = (&was.rows[&taken], department.rows().filter(|row| was.free(*row)).count());
+    kept(&was, department, old.rank, all);
     let state = was.stations[old.station].state;
-    let Step::Begin { station, .. } = step else { return };
     let dropped = generate::on_the_way(old);
     for (what, holds) in [
         ("64 rows used, one free", free == 1),
         ("64 rows used, several free", free > 1),
         ("64 rows used, all free", free == ROWS),
-        ("given back: not the lowest row that is free", (0..taken).any(|row| was.free(row))),
+        ("given back: not the lowest row that is free", (department.rows().start..taken).any(|row| was.free(row))),
         ("given back: with a read waiting at a stopped box", old.reads.contains(&Request::Waiting)),
         ("given back: with a write waiting at a stopped box", old.writes.contains(&Request::Waiting)),
         ("given back: with a read's answer on the way", dropped.iter().any(|(phase, _)| *phase == Phase::Read)),
@@ -382,9 +533,9 @@ fn cover_begin(step: Step, floor: &mut Floor, rows: &mut [Row], all: &mut BTreeS
     rows[taken] = Row { ended: "", times: rows[taken].times + 1, former: old.station, dropped };
 }
 
-/// The rows below a rank that are not free, for one cause alone.
-fn kept(floor: &Floor, rank: u32, all: &mut BTreeSet<String>) {
-    for (number, a) in floor.rows.iter().enumerate().filter(|(_, a)| a.rank < rank) {
+/// The rows of a department below a rank that are not free, for one cause alone.
+fn kept(floor: &Floor, department: Department, rank: u32, all: &mut BTreeSet<String>) {
+    for (&number, a) in floor.rows.range(department.rows()).filter(|(_, a)| a.rank < rank) {
         let answering = || (0..floor.boxes.len()).filter(|b| !floor.boxes[*b].stopped);
         let reads = answering().filter(|b| a.reads[*b] == Request::Waiting).count();
         let writes = answering().filter(|b| a.writes[*b] == Request::Waiting).count();
@@ -398,5 +549,182 @@ fn kept(floor: &Floor, rank: u32, all: &mut BTreeSet<String>) {
             _ => continue,
         };
         all.insert(format!("not free: {why}"));
+    }
+}
+
+/// What the bytes before the records reached: versions, sizes at the limits, and 22 with its neighbours. What is wrong with them is looked
+/// for apart from the reference.
+fn cover_head(file: &[u8], reached: &mut Coverage) {
+    let refusal = reference::parts(file).err();
+    let ends = refusal.map_or("played".to_string(), |k| format!("refusal {k:2}"));
+    if file.len() < 6 {
+        return;
+    }
+    let version = file[2];
+    if [32_806, 32_807, 32_821, 32_822, 32_823].contains(&file.len()) && version <= 3 {
+        note(reached, &format!("{} bytes, version {version}: {ends}", file.len()));
+    }
+    if refusal == Some(1) {
+        return;
+    }
+    if version <= 3 {
+        note(reached, &format!("version {version}: {ends}"));
+    }
+    let (m, first) = (file[4] as usize, 6 + file[5] as usize);
+    if version != 2 || !(1..=16).contains(&m) || first > file.len() {
+        return;
+    }
+    let (label, behind) = (&file[6..first], &file[first..]);
+    let missing = behind.len() < m;
+    let wrong = behind.iter().take(m).any(|b| *b > 1);
+    let label_wrong = !(1..=32).contains(&label.len()) || label.iter().any(|b| !(33..=126).contains(b));
+    let rest = behind.len().saturating_sub(m);
+    let records_wrong = rest % 8 != 0 || rest > 8 * 4096;
+    for (what, holds) in [
+        ("a department byte missing", missing && !wrong && !label_wrong),
+        ("all department bytes missing", behind.is_empty() && !label_wrong),
+        ("the last department byte missing", behind.len() + 1 == m && !label_wrong),
+        ("a department byte of 2", !missing && wrong && behind.iter().take(m).all(|b| *b <= 2) && !label_wrong && !records_wrong),
+        ("a department byte above 2", !missing && behind.iter().take(m).any(|b| *b > 2) && !label_wrong && !records_wrong),
+        ("22 beside 4", (missing || wrong) && label_wrong && (1..=9).contains(&file[3])),
+        ("22 beside 5", !missing && wrong && records_wrong && !label_wrong),
+        ("department bytes and nothing behind", behind.len() == m && !wrong && !label_wrong),
+    ] {
+        if holds {
+            note(reached, &format!("head: {what}: {ends}"));
+        }
+    }
+}
+
+/// The attempts about the limits of the departments' rows that steps of a played file name, and what such a step gave.
+fn cover_numbers(parts: &Parts, played: &Played, reached: &mut Coverage) {
+    let named = |step: &Step| match *step {
+        Step::Serve { attempt, .. } | Step::Deliver { attempt, .. } => Some(attempt),
+        _ => None,
+    };
+    let mut all: BTreeSet<String> = BTreeSet::new();
+    for attempt in played.trace.iter().filter_map(|(step, _)| named(step)) {
+        if [63, 64, 65, 127].contains(&attempt) {
+            all.insert(format!("attempt {attempt:3}: accepted"));
+        }
+    }
+    let refused = parts.records.clone().nth(played.trace.len()).and_then(|record| decode(record).ok());
+    if let (Some(attempt), 8) = (refused.as_ref().and_then(named), played.refusal) {
+        let [sails, canvas] = DEPARTMENTS.map(|d| played.floor.used(d) == ROWS);
+        if [63, 64, 65, 127, 128].contains(&attempt) {
+            all.insert(format!("attempt {attempt:3}: refusal 8"));
+        }
+        if (attempt == 64 && sails) || (attempt == 128 && canvas) {
+            all.insert(format!("attempt {attempt:3}: refusal 8, the 64 rows before it used"));
+        }
+    }
+    for what in all {
+        note(reached, &what);
+    }
+}
+
+/// What the departments of a version 2 file reached beside each other.
+fn cover_departments(parts: &Parts, played: &Played, reached: &mut Coverage) {
+    if parts.version != 2 {
+        return;
+    }
+    let (stations, floor) = (parts.stations(), &played.floor);
+    let of = |d: Department| stations.contains(&d);
+    if !of(Department::Sails) || !of(Department::Canvas) {
+        note(reached, &format!("departments: {:?} alone", stations[0]));
+        return;
+    }
+    let [sails, canvas] = DEPARTMENTS.map(|d| begun(played, d));
+    let in_both = |what: &dyn Fn(Said) -> bool| {
+        let in_one = |d: &Department| played.trace.iter().any(|(step, said)| what(*said) && belongs(*step, &stations, *d));
+        DEPARTMENTS.iter().all(in_one)
+    };
+    let decided = DEPARTMENTS.map(|d| floor.stations.iter().filter(|s| s.department == d).find_map(|s| s.decided));
+    let wait = |b: usize| {
+        let waits = |a: &Attempt| a.reads[b] == Request::Waiting || a.writes[b] == Request::Waiting;
+        DEPARTMENTS.iter().all(|d| floor.rows.range(d.rows()).any(|(_, a)| waits(a)))
+    };
+    for (what, holds) in [
+        ("both", true),
+        ("begun in one alone", sails.is_empty() != canvas.is_empty()),
+        ("begun in both", !sails.is_empty() && !canvas.is_empty()),
+        ("a round begun in both", sails.iter().any(|(_, round)| canvas.iter().any(|(_, other)| other == round))),
+        ("a round served in both at one box", round_shared(played, &stations)),
+        ("decided in both", decided[0].is_some() && decided[1].is_some()),
+        ("decided in both, two revisions", decided[0].is_some() && decided[1].is_some() && decided[0] != decided[1]),
+        ("aborted in both", in_both(&|s| matches!(s, Said::Aborted(_)))),
+        ("gone in both", in_both(&|s| matches!(s, Said::Gone(_)))),
+        ("requests of both wait at a stopped box", (0..parts.n).any(|b| floor.boxes[b].stopped && wait(b))),
+        ("both served after a box stopped", served_after_stop(played, &stations)),
+    ] {
+        if holds {
+            note(reached, &format!("departments: {what}"));
+        }
+    }
+    cover_refused(parts, played, &stations, reached);
+}
+
+/// Whether one box served the same round in both departments.
+fn round_shared(played: &Played, stations: &[Department]) -> bool {
+    let mut round_of: BTreeMap<usize, u32> = BTreeMap::new();
+    let mut served: BTreeSet<(usize, u32, bool)> = BTreeSet::new();
+    played.trace.iter().any(|(step, said)| {
+        if let (Step::Begin { round, .. }, Said::Begun(row)) = (*step, *said) {
+            round_of.insert(row, round);
+        }
+        let Step::Serve { attempt, at, .. } = *step else { return false };
+        let sails = belongs(*step, stations, Department::Sails);
+        served.insert((at, round_of[&attempt], sails));
+        served.contains(&(at, round_of[&attempt], !sails))
+    })
+}
+
+/// Whether each department had a request served after a box stopped.
+fn served_after_stop(played: &Played, stations: &[Department]) -> bool {
+    let Some(stop) = played.trace.iter().position(|(step, _)| matches!(step, Step::Stop { .. })) else { return false };
+    let served = |d: &Department| {
+        let serve = |(step, _): &(Step, Said)| matches!(step, Step::Serve { .. }) && belongs(*step, stations, *d);
+        played.trace[stop..].iter().any(serve)
+    };
+    DEPARTMENTS.iter().all(served)
+}
+
+/// Refusals 12 and 13, by the department of the step; with 12 also how the rows of the other department stand.
+fn cover_refused(parts: &Parts, played: &Played, stations: &[Department], reached: &mut Coverage) {
+    let Some(Ok(step)) = parts.records.clone().nth(played.trace.len()).map(decode) else { return };
+    let floor = &played.floor;
+    match (step, played.refusal) {
+        (Step::Begin { station, .. }, 12) => {
+            let other = DEPARTMENTS[1 - stations[station] as usize];
+            let rows = match floor.next_row(other) {
+                Some(_) if floor.used(other) < ROWS => "a row of the other unused",
+                Some(_) => "a row of the other free",
+                None => "no row of the other unused or free",
+            };
+            note(reached, &format!("departments: refusal 12 to {:?}, {rows}", stations[station]));
+        }
+        (Step::Serve { attempt, .. }, 13) => {
+            note(reached, &format!("departments: refusal 13 to a serve of {:?}", Department::of_row(attempt)));
+        }
+        _ => {}
+    }
+}
+
+/// What the files reached that were run without the steps of one department.
+fn cover_deletion(played: &Played, left: &[(Step, Said)], out: Department, reached: &mut Coverage) {
+    note(reached, &taken_out(out));
+    let any = |what: &dyn Fn(&Said) -> bool| left.iter().any(|(_, said)| what(said));
+    let begins = left.iter().filter(|(_, said)| matches!(said, Said::Begun(_))).count();
+    for (what, holds) in [
+        ("every record of the file accepted", played.refusal == 0),
+        ("a box stopped", any(&|said| matches!(said, Said::Stopped(_)))),
+        ("more than 64 attempts left", begins > ROWS),
+        ("more than 64 attempts left, more than 64 taken out", begins > ROWS && begun(played, out).len() > ROWS),
+        ("a decision left", any(&|said| matches!(said, Said::Decided(_)))),
+        ("an abort left", any(&|said| matches!(said, Said::Aborted(_)))),
+    ] {
+        if holds {
+            note(reached, &format!("deletion: {what}"));
+        }
     }
 }

@@ -1,8 +1,8 @@
-//! Pseudo-random drill files from a seed: long runs with much contention, runs through more attempts than there are rows, and damaged files
-//! of every kind; and parts for the writer. The same seed and the same number always give the same.
+//! Pseudo-random drill files from a seed, of both versions: long runs with much contention, runs through more attempts than there are rows,
+//! and damaged files of every kind; and parts for the writer. The same seed and the same number always give the same.
 #![allow(dead_code)]
 
-use crate::reference::{Attempt, Floor, Phase, Request, Said, State, Step, StorageBox, ROWS};
+use crate::reference::{Attempt, Department, Floor, Phase, Register, Request, Said, State, Step, DEPARTMENTS, ROWS};
 
 /// xorshift64*, so that the files depend on nothing but the seed.
 pub struct Random(u64);
@@ -44,24 +44,28 @@ impl Random {
 /// The file of that number.
 pub fn file(seed: u64, number: u64) -> Vec<u8> {
     let r = &mut Random::new(seed, number);
-    match number % 26 {
-        0..=10 => run(r),
-        11..=13 => damaged(r),
-        14 => sized(r),
-        15 => crowded(r),
-        16..=17 => flipped(r),
-        18 => wild_records(r),
-        19 => noise(r),
+    match number % 31 {
+        0..=9 => run(r),
+        10..=11 => at_few_boxes(r),
+        12..=14 => damaged(r),
+        15 => sized(r),
+        16 => crowded(r),
+        17..=18 => flipped(r),
+        19 => wild_records(r),
+        20 => noise(r),
+        21..=22 => miscalled(r),
         _ => given_back(r),
     }
 }
 
-/// What is handed to the writer: the buffer, n, m, the label and the records.
+/// What is handed to the writer: the buffer, the version, n, m, the label, the department bytes and the records.
 pub struct Handed {
     pub buffer: Vec<u8>,
+    pub version: u8,
     pub n: u8,
     pub m: u8,
     pub label: Vec<u8>,
+    pub departments: Vec<u8>,
     pub records: Vec<u8>,
 }
 
@@ -69,6 +73,7 @@ pub struct Handed {
 pub fn handed(seed: u64, number: u64) -> Handed {
     let r = &mut Random::new(seed ^ 0x5712_77E4, number);
     let wrong = r.pick(&[0, 0, 10, 50]);
+    let version = if r.percent(wrong) { r.pick(&[0, 3, 4, 128, 255]) } else { r.between(1, 2) };
     let n = if r.percent(wrong) { r.pick(&[0, 10, 11, 255]) } else { r.between(1, 9) };
     let m = if r.percent(wrong) { r.pick(&[0, 17, 18, 255]) } else { r.between(1, 16) };
     let length = if r.percent(wrong) { r.pick(&[0, 33, 34, 64, 255, 256, 257, 288, 65_537]) } else { r.between(1, 32) };
@@ -77,10 +82,18 @@ pub fn handed(seed: u64, number: u64) -> Handed {
         let at = r.below(length);
         label[at] = r.pick(&[0, 9, 31, 32, 127, 128, 255]);
     }
+    let mut departments = if version == 1 { Vec::new() } else { departments(r, m) };
+    if r.percent(wrong) {
+        miscount(r, &mut departments);
+    }
+    if !departments.is_empty() && r.percent(wrong) {
+        let at = r.below(departments.len());
+        departments[at] = no_department(r);
+    }
     let whole = if r.percent(3) { r.pick(&[4095, 4096, 4097, 4098, 8192]) } else { r.below(12) };
     let odd = if r.percent(wrong) { r.between(1, 7) } else { 0 };
     let records: Vec<u8> = (0..8 * whole + odd).map(|_| r.below(256) as u8).collect();
-    let size = 6 + label.len() + records.len();
+    let size = 6 + label.len() + departments.len() + records.len();
     let room = match r.below(10) {
         0..=3 => size,
         4 | 5 => size - 1,
@@ -90,7 +103,23 @@ pub fn handed(seed: u64, number: u64) -> Handed {
         _ => r.below(12),
     };
     let buffer = (0..room).map(|_| r.below(256) as u8).collect();
-    Handed { buffer, n: n as u8, m: m as u8, label, records }
+    Handed { buffer, version: version as u8, n: n as u8, m: m as u8, label, departments, records }
+}
+
+/// Other department bytes than a file of that version has: one or more too many, or too few.
+fn miscount(r: &mut Random, departments: &mut Vec<u8>) {
+    if departments.is_empty() || r.percent(50) {
+        let more = r.pick(&[1, 1, 2, 8, 16]);
+        departments.extend((0..more).map(|_| r.below(2) as u8));
+    } else {
+        let keep = r.pick(&[0, departments.len() - 1]);
+        departments.truncate(keep);
+    }
+}
+
+/// A byte that names no department.
+fn no_department(r: &mut Random) -> u8 {
+    r.pick(&[2, 2, 2, 3, 16, 48, 49, 128, 129, 254, 255])
 }
 
 pub fn encode(step: Step) -> [u8; 8] {
@@ -107,16 +136,44 @@ pub fn encode(step: Step) -> [u8; 8] {
     }
 }
 
+/// What a file says beside its label and its records. Version 1 has no department bytes; those here are 0.
+pub struct Head {
+    pub version: u8,
+    pub n: usize,
+    pub departments: Vec<u8>,
+}
+
+impl Head {
+    fn m(&self) -> usize {
+        self.departments.len()
+    }
+
+    /// The new floor of such a file.
+    fn floor(&self) -> Floor {
+        let stations: Vec<Department> = self.departments.iter().map(|d| DEPARTMENTS[*d as usize]).collect();
+        Floor::new(self.n, &stations)
+    }
+
+    /// Whether both departments have stations.
+    fn both(&self) -> bool {
+        self.departments.contains(&0) && self.departments.contains(&1)
+    }
+}
+
 /// A file, its L set to what it should be (modulo 65,536 where it is too long for one).
-pub fn frame(n: u8, m: u8, label: &[u8], records: &[[u8; 8]]) -> Vec<u8> {
-    let mut file = vec![0, 0, 1, n, m, label.len() as u8];
+pub fn frame(head: &Head, label: &[u8], records: &[[u8; 8]]) -> Vec<u8> {
+    let mut file = vec![0, 0, head.version, head.n as u8, head.m() as u8, label.len() as u8];
     file.extend_from_slice(label);
+    if head.version == 2 {
+        file.extend_from_slice(&head.departments);
+    }
     file.extend(records.iter().flatten());
     sign(&mut file);
     file
 }
 
-fn sign(file: &mut [u8]) {
+/// Sets L to what it should be.
+pub fn sign(file: &mut [u8]) {
     if file.len() >= 2 {
         let l = (file.len() - 2) as u16;
         file[..2].copy_from_slice(&l.to_be_bytes());
@@ -125,6 +182,27 @@ fn sign(file: &mut [u8]) {
 
 fn label(r: &mut Random, length: usize) -> Vec<u8> {
     (0..length).map(|_| r.between(33, 126) as u8).collect()
+}
+
+/// A department byte for each station: of one department alone, all but one station of it, in turn, or at random.
+fn departments(r: &mut Random, m: usize) -> Vec<u8> {
+    let one = r.below(2);
+    let odd = match r.below(10) {
+        0 => None,
+        1 | 2 => Some(r.below(m.max(1))),
+        3 | 4 => return (0..m).map(|s| ((s + one) % 2) as u8).collect(),
+        _ => return (0..m).map(|_| r.below(2) as u8).collect(),
+    };
+    (0..m).map(|s| if Some(s) == odd { 1 - one } else { one } as u8).collect()
+}
+
+/// The head of a file of that version.
+fn head_of(r: &mut Random, version: u8, n: usize, m: usize) -> Head {
+    Head { version, n, departments: if version == 2 { departments(r, m) } else { vec![0; m] } }
+}
+
+fn version(r: &mut Random) -> u8 {
+    if r.percent(55) { 2 } else { 1 }
 }
 
 /// How a run is driven: how often each kind of step is wanted, and how much the stations get in each other's way.
@@ -140,6 +218,9 @@ struct Habit {
     spared: usize,
     /// how often a begin does not outrank the others, in percent
     low: usize,
+    /// where requests are served at no more boxes than they need: a number that chooses the boxes, and the station from which on all begin
+    /// in high rounds and read at one box alone
+    few: Option<(u64, usize)>,
 }
 
 fn habit(r: &mut Random) -> Habit {
@@ -156,6 +237,7 @@ fn habit(r: &mut Random) -> Habit {
         late: r.pick(&[0, 30, 80, 95, 100]),
         spared: r.pick(&[0, 0, 50, 90, 100]),
         low: r.pick(&[0, 0, 5, 40]),
+        few: None,
     }
 }
 
@@ -167,19 +249,24 @@ fn revision(r: &mut Random) -> u32 {
     }
 }
 
-/// A begin that the floor accepts; how often it does not outrank the others, in percent.
-fn begin(r: &mut Random, floor: &Floor, low: usize) -> Option<Step> {
-    floor.next_row()?;
+/// A begin of one of these departments that the floor accepts; how often it does not outrank the others of its department, in percent. The
+/// two departments so go through the same rounds.
+fn begin(r: &mut Random, floor: &Floor, of: &[Department], low: usize) -> Option<Step> {
+    let of: Vec<Department> = of.iter().copied().filter(|d| floor.next_row(*d).is_some()).collect();
     let idle: Vec<usize> = (0..floor.stations.len())
         .filter(|s| floor.stations[*s].state == State::Idle && floor.stations[*s].last_round < 65_535)
+        .filter(|s| of.contains(&floor.stations[*s].department))
         .collect();
     if idle.is_empty() {
         return None;
     }
     let station = r.pick(&idle);
+    let department = floor.stations[station].department;
     let next = floor.stations[station].last_round + 1;
-    let top = floor.stations.iter().map(|s| s.last_round).max().unwrap_or(0) + 1;
-    let round = if floor.rows.len() < ROWS && r.below(400) == 0 {
+    let all = r.percent(10);
+    let others = floor.stations.iter().filter(|s| all || s.department == department);
+    let top = others.map(|s| s.last_round).max().unwrap_or(0) + 1;
+    let round = if floor.used(department) < ROWS && r.below(400) == 0 {
         65_535
     } else if r.percent(low) {
         next
@@ -191,24 +278,46 @@ fn begin(r: &mut Random, floor: &Floor, low: usize) -> Option<Step> {
     Some(Step::Begin { station, round: round.min(65_535), revision: revision(r) })
 }
 
-fn would_take(storage: &StorageBox, a: &Attempt) -> bool {
-    storage.read_rank <= a.rank && storage.held.map_or(0, |x| x.0) < a.rank
+fn would_take(register: &Register, a: &Attempt) -> bool {
+    register.read_rank <= a.rank && register.held.map_or(0, |x| x.0) < a.rank
+}
+
+/// Whether a request of an attempt is served at a box, where its read, and its write, is served at q boxes and no more.
+fn asked(h: &Habit, floor: &Floor, a: &Attempt, phase: Phase, b: usize) -> bool {
+    let Some((number, at_one)) = h.few else { return true };
+    let n = floor.boxes.len();
+    let first = Random::new(number, 2 * a.rank as u64 + phase as u64).below(n);
+    let boxes = if a.station < at_one { floor.quorum() } else { 1 };
+    (b + n - first) % n < boxes
+}
+
+/// A begin, in a higher round where the habit says so.
+fn raised(h: &Habit, step: Step) -> Step {
+    match (step, h.few) {
+        (Step::Begin { station, round, revision }, Some((_, at_one))) if station >= at_one => {
+            Step::Begin { station, round: (round + 1000).min(65_535), revision }
+        }
+        _ => step,
+    }
 }
 
 /// A step that the floor accepts, of a kind that the habit favours.
 fn accepted(r: &mut Random, floor: &Floor, h: &Habit) -> Option<Step> {
     let mut by_kind: [Vec<Step>; 6] = Default::default();
-    for (number, a) in floor.rows.iter().enumerate() {
+    let unused = DEPARTMENTS.map(|d| floor.used(d) < ROWS);
+    for (&number, a) in &floor.rows {
+        let department = Department::of_row(number);
         let gone = floor.stations[a.station].state == State::Gone;
         for (b, storage) in floor.boxes.iter().enumerate() {
             for (phase, waiting, on_the_way) in [
                 (Phase::Read, a.reads[b] == Request::Waiting, matches!(a.reads[b], Request::OnTheWay(_))),
                 (Phase::Write, a.writes[b] == Request::Waiting, matches!(a.writes[b], Request::OnTheWay(_))),
             ] {
-                if waiting && !storage.stopped {
+                if waiting && !storage.stopped && asked(h, floor, a, phase, b) {
+                    let register = storage.register(department);
                     let put_off = match phase {
-                        Phase::Read => storage.outranks(a.rank) && r.percent(h.spared),
-                        Phase::Write => would_take(storage, a) && floor.rows.len() < ROWS && r.percent(h.late),
+                        Phase::Read => register.outranks(a.rank) && r.percent(h.spared),
+                        Phase::Write => would_take(register, a) && unused[department as usize] && r.percent(h.late),
                     };
                     let kind = if put_off { 5 } else { phase as usize };
                     by_kind[kind].push(Step::Serve { phase, attempt: number, at: b });
@@ -229,7 +338,7 @@ fn accepted(r: &mut Random, floor: &Floor, h: &Habit) -> Option<Step> {
             by_kind[4].push(Step::Gone { station: s });
         }
     }
-    let fresh = begin(r, floor, h.low);
+    let fresh = begin(r, floor, &DEPARTMENTS, h.low).map(|step| raised(h, step));
     let weights = [
         h.serve[0] * !by_kind[0].is_empty() as usize,
         h.serve[1] * !by_kind[1].is_empty() as usize,
@@ -253,9 +362,19 @@ fn accepted(r: &mut Random, floor: &Floor, h: &Habit) -> Option<Step> {
     None
 }
 
+/// The number of an attempt, begun or not: at the limits, or up to the first number of its department that is not used.
+fn attempt_about(r: &mut Random, floor: &Floor) -> usize {
+    let [sails, canvas] = DEPARTMENTS.map(|d| floor.used(d));
+    if r.percent(20) {
+        return r.pick(&[sails, 64 + canvas, 63, 64, 65, 127, 128, 255]);
+    }
+    let at = r.below(sails + canvas + 1);
+    if canvas == 0 || at < sails { at } else { 64 + at - sails }
+}
+
 /// A step of any kind that may or may not be accepted, its numbers at and about the limits.
 fn about(r: &mut Random, floor: &Floor) -> Step {
-    let attempt = if r.percent(20) { r.pick(&[floor.rows.len(), 63, 64, 255]) } else { r.below(floor.rows.len() + 1) };
+    let attempt = attempt_about(r, floor);
     let b = if r.percent(10) { r.pick(&[floor.boxes.len(), 9, 255]) } else { r.below(floor.boxes.len()) };
     let station = if r.percent(10) { r.pick(&[floor.stations.len(), 16, 255]) } else { r.below(floor.stations.len()) };
     let phase = if r.percent(50) { Phase::Read } else { Phase::Write };
@@ -272,7 +391,20 @@ fn about(r: &mut Random, floor: &Floor) -> Step {
     }
 }
 
-/// A record that the floor turns back with that refusal, where there is one. With no row for a begin it is a begin, if one can be so refused.
+/// The departments that have no row for a begin.
+fn full(floor: &Floor) -> Vec<Department> {
+    DEPARTMENTS.into_iter().filter(|d| floor.next_row(*d).is_none()).collect()
+}
+
+/// A step that names an attempt not begun, at the limits of the departments' rows.
+fn not_begun(r: &mut Random, floor: &Floor) -> Step {
+    let attempt = r.pick(&[floor.used(Department::Sails), 64 + floor.used(Department::Canvas), 63, 64, 65, 127, 128, 129, 192, 255]);
+    let (b, phase) = (r.below(floor.boxes.len()), if r.percent(50) { Phase::Read } else { Phase::Write });
+    if r.percent(50) { Step::Serve { phase, attempt, at: b } } else { Step::Deliver { phase, attempt, from: b } }
+}
+
+/// A record that the floor turns back with that refusal, where there is one. With no row for a begin it is a begin of such a department or
+/// of no station, if one can be so refused.
 fn turned_back(r: &mut Random, floor: &Floor, refusal: u8) -> Option<[u8; 8]> {
     if refusal == 7 {
         let mut record = encode(about(r, floor));
@@ -290,12 +422,28 @@ fn turned_back(r: &mut Random, floor: &Floor, refusal: u8) -> Option<[u8; 8]> {
         }
         return Some(record);
     }
-    let full = floor.next_row().is_none();
-    if refusal == 12 && !full {
+    let full = full(floor);
+    if refusal == 12 && full.is_empty() {
         return None;
     }
-    let wanted = |step: &Step| !full || refusal > 12 || matches!(step, Step::Begin { .. });
-    (0..400).map(|_| about(r, floor)).find(|step| wanted(step) && floor.clone().step(*step) == Err(refusal)).map(encode)
+    let beyond = refusal == 8 && r.percent(if full.is_empty() { 60 } else { 30 });
+    let wanted = |step: &Step| match step {
+        Step::Begin { station, .. } => full.is_empty() || floor.stations.get(*station).map_or(true, |s| full.contains(&s.department)),
+        _ => full.is_empty() || refusal > 12 || beyond,
+    };
+    let mut trial = floor.clone();
+    for _ in 0..400 {
+        let step = if beyond { not_begun(r, floor) } else { about(r, floor) };
+        if !wanted(&step) {
+            continue;
+        }
+        match trial.step(step) {
+            Err(given) if given == refusal => return Some(encode(step)),
+            Err(_) => {}
+            Ok(_) => trial = floor.clone(),
+        }
+    }
+    None
 }
 
 fn sizes(r: &mut Random) -> (usize, usize) {
@@ -304,11 +452,21 @@ fn sizes(r: &mut Random) -> (usize, usize) {
     (n, m)
 }
 
+fn head(r: &mut Random) -> Head {
+    let ((n, m), version) = (sizes(r), version(r));
+    head_of(r, version, n, m)
+}
+
 /// Steps that are all accepted, `most` at most, and the floor behind them.
-fn accepted_steps(r: &mut Random, n: usize, m: usize, most: usize) -> (Vec<[u8; 8]>, Floor) {
-    let (mut floor, h, mut records) = (Floor::new(n, m), habit(r), Vec::new());
+fn accepted_steps(r: &mut Random, head: &Head, most: usize) -> (Vec<[u8; 8]>, Floor) {
+    let h = habit(r);
+    steps_by(r, &h, head, most)
+}
+
+fn steps_by(r: &mut Random, h: &Habit, head: &Head, most: usize) -> (Vec<[u8; 8]>, Floor) {
+    let (mut floor, mut records) = (head.floor(), Vec::new());
     while records.len() < most {
-        let Some(step) = accepted(r, &floor, &h) else { break };
+        let Some(step) = accepted(r, &floor, h) else { break };
         floor.step(step).expect("the step was chosen because it is accepted");
         records.push(encode(step));
     }
@@ -317,15 +475,15 @@ fn accepted_steps(r: &mut Random, n: usize, m: usize, most: usize) -> (Vec<[u8; 
 
 /// A run that is accepted whole, or turned back at its last step or before.
 fn run(r: &mut Random) -> Vec<u8> {
-    let (n, m) = sizes(r);
+    let head = head(r);
     let most = r.pick(&[0, 5, 40, 150, 150, 400, 400, 800, 2400]);
-    let (mut records, mut floor) = accepted_steps(r, n, m, most);
+    let (mut records, mut floor) = accepted_steps(r, &head, most);
     if r.percent(45) {
-        let refusal = if floor.next_row().is_none() && r.percent(70) { 12 } else { r.between(7, 14) as u8 };
+        let refusal = if !full(&floor).is_empty() && r.percent(70) { 12 } else { r.between(7, 14) as u8 };
         // a station that is gone for refusal 9, a box that has stopped for refusal 13
         let first = match refusal {
-            9 => Some(Step::Gone { station: r.below(m) }),
-            13 => Some(Step::Stop { at: r.below(n) }),
+            9 => Some(Step::Gone { station: r.below(head.m()) }),
+            13 => Some(Step::Stop { at: r.below(head.n) }),
             _ => None,
         };
         if let Some(step) = first.filter(|step| floor.step(*step).is_ok()) {
@@ -338,7 +496,23 @@ fn run(r: &mut Random) -> Vec<u8> {
     }
     let length = r.between(1, 32);
     let name = label(r, length);
-    frame(n as u8, m as u8, &name, &records)
+    frame(&head, &name, &records)
+}
+
+/// A short run of few stations, whose requests are served at q boxes and no more. In half of these the last stations of each department read
+/// at one box alone, in high rounds: they outrank the others there and nowhere else.
+fn at_few_boxes(r: &mut Random) -> Vec<u8> {
+    let (n, version) = (r.pick(&[3, 3, 3, 3, 4, 5]), version(r) as usize);
+    let (others, at_one) = (r.between(3, 5), r.pick(&[0, 0, 0, 1, 1, 2]));
+    let departments: Vec<u8> = (0..version * (others + at_one)).map(|s| (s % version) as u8).collect();
+    let head = Head { version: version as u8, n, departments };
+    let few = Some((r.next(), version * others));
+    let (begin, late, low) = if at_one > 0 { (1, 0, 100) } else { (4, r.pick(&[0, 60]), 0) };
+    let h = Habit { begin, late, spared: 0, low, stop: 0, gone: 0, few, ..habit(r) };
+    let (records, _) = steps_by(r, &h, &head, 60 * head.m());
+    let length = r.between(1, 32);
+    let name = label(r, length);
+    frame(&head, &name, &records)
 }
 
 /// Some records behind one that is turned back, now and then as many as a file may have.
@@ -353,8 +527,9 @@ fn more(r: &mut Random, floor: &Floor, records: &mut Vec<[u8; 8]>) {
     }
 }
 
-/// How a run through more attempts than rows is driven. At most 16 rows are those of stations that read or write, so that with all 64 used
-/// none is free only where requests of attempts that are over are left waiting; with one box there are none such but those of stations gone.
+/// How a run of one department through more attempts than rows is driven. At most 16 rows are those of stations that read or write, so that
+/// with all 64 used none is free only where requests of attempts that are over are left waiting; with one box there are none such but
+/// those of stations gone.
 struct Wear {
     /// how often each is wanted: a begin, a step of an attempt that is not over, a late serve, a late delivery
     wanted: [usize; 4],
@@ -367,16 +542,37 @@ struct Wear {
     /// how often one of them, or what waits at this box, is left waiting then, in percent
     but_one: usize,
     but_at: Option<usize>,
-    /// in a thousand steps
+    /// in a thousand steps, of either department
     stop: usize,
     gone: usize,
 }
 
+/// How a run is driven in each department, and how often a step of sails is wanted, in percent.
+struct Shared {
+    wear: [Wear; 2],
+    sails: usize,
+}
+
+impl Shared {
+    fn of(&self, department: Department) -> &Wear {
+        &self.wear[department as usize]
+    }
+}
+
+/// One department may be left alone, or nearly so.
+fn shared(r: &mut Random, head: &Head, wear: [Wear; 2]) -> Shared {
+    let sails = match head.both() {
+        true => r.pick(&[50, 50, 50, 50, 50, 50, 40, 60, 3, 97, 0, 100]),
+        false => 100 * head.departments.contains(&0) as usize,
+    };
+    Shared { wear, sails }
+}
+
 fn wear(r: &mut Random, n: usize, m: usize) -> Wear {
     // most of the rows are free, few, or none
-    let (served, cleared, but_one) = match r.below(3) {
+    let (served, cleared, but_one) = match r.below(5) {
         0 => (r.pick(&[0, 1, 3]), r.pick(&[90, 100]), r.pick(&[0, 0, 5])),
-        1 => (r.pick(&[0, 1, 3]), r.pick(&[60, 90, 100]), r.pick(&[60, 95])),
+        1 | 2 => (r.pick(&[0, 1, 3]), r.pick(&[60, 90, 100]), r.pick(&[60, 95])),
         _ => (r.pick(&[0, 0, 0, 1]), r.pick(&[0, 0, 50, 100]), 100),
     };
     let rough = r.percent(50);
@@ -399,7 +595,7 @@ fn brisk(r: &mut Random) -> Wear {
 
 /// The serves of an attempt that the floor accepts.
 fn serves(floor: &Floor, row: usize) -> Vec<Step> {
-    let a = &floor.rows[row];
+    let a = &floor.rows[&row];
     let mut steps = Vec::new();
     for at in (0..floor.boxes.len()).filter(|b| !floor.boxes[*b].stopped) {
         if a.reads[at] == Request::Waiting {
@@ -428,7 +624,7 @@ pub fn on_the_way(a: &Attempt) -> Vec<(Phase, usize)> {
 
 /// A step of an attempt in the phase that its station is in. Writes that a box would take are put off, unless nothing else is left to do.
 fn in_phase(r: &mut Random, floor: &Floor, w: &Wear, row: usize, phase: Phase, pressed: bool) -> Option<Step> {
-    let (a, n) = (&floor.rows[row], floor.boxes.len());
+    let (a, n, department) = (&floor.rows[&row], floor.boxes.len(), Department::of_row(row));
     let (first, deliver) = (r.below(n), r.percent(60));
     let put_off = phase == Phase::Write && !pressed && r.percent(w.late);
     for kind in [deliver, !deliver] {
@@ -441,7 +637,7 @@ fn in_phase(r: &mut Random, floor: &Floor, w: &Wear, row: usize, phase: Phase, p
                 return Some(Step::Deliver { phase, attempt: row, from: b });
             }
             let storage = &floor.boxes[b];
-            if !kind && waiting && !storage.stopped && !(put_off && would_take(storage, a)) {
+            if !kind && waiting && !storage.stopped && !(put_off && would_take(storage.register(department), a)) {
                 return Some(Step::Serve { phase, attempt: row, at: b });
             }
         }
@@ -450,7 +646,9 @@ fn in_phase(r: &mut Random, floor: &Floor, w: &Wear, row: usize, phase: Phase, p
 }
 
 /// A step that the floor accepts, found at a few places only.
-fn worn(r: &mut Random, floor: &Floor, w: &Wear, pressed: bool) -> Option<Step> {
+fn worn(r: &mut Random, floor: &Floor, shared: &Shared, pressed: bool) -> Option<Step> {
+    let department = if r.percent(shared.sails) { Department::Sails } else { Department::Canvas };
+    let w = shared.of(department);
     if r.below(1000) < w.stop {
         let (at, answering) = (r.below(floor.boxes.len()), floor.boxes.iter().filter(|b| !b.stopped).count());
         let spared = answering <= floor.quorum() && r.percent(80);
@@ -467,12 +665,13 @@ fn worn(r: &mut Random, floor: &Floor, w: &Wear, pressed: bool) -> Option<Step> 
         kind += 1;
     }
     if kind == 0 {
-        return begin(r, floor, w.low);
+        return begin(r, floor, &[department], w.low);
     }
     if kind == 1 {
         let busy: Vec<(usize, Phase)> = floor
             .stations
             .iter()
+            .filter(|s| s.department == department)
             .filter_map(|s| match s.state {
                 State::Reading(row) => Some((row, Phase::Read)),
                 State::Writing(row) => Some((row, Phase::Write)),
@@ -485,15 +684,16 @@ fn worn(r: &mut Random, floor: &Floor, w: &Wear, pressed: bool) -> Option<Step> 
         let (row, phase) = r.pick(&busy);
         return in_phase(r, floor, w, row, phase, pressed);
     }
-    for _ in 0..8.min(floor.rows.len()) {
-        let row = r.below(floor.rows.len());
-        let gone = floor.stations[floor.rows[row].station].state == State::Gone;
+    let used = floor.used(department);
+    for _ in 0..8.min(used) {
+        let row = department.rows().start + r.below(used);
+        let gone = floor.stations[floor.rows[&row].station].state == State::Gone;
         if !floor.over(row) || (kind == 3 && gone) {
             continue;
         }
         let late: Vec<Step> = match kind {
             2 => serves(floor, row),
-            _ => on_the_way(&floor.rows[row]).iter().map(|(phase, b)| Step::Deliver { phase: *phase, attempt: row, from: *b }).collect(),
+            _ => on_the_way(&floor.rows[&row]).iter().map(|(phase, b)| Step::Deliver { phase: *phase, attempt: row, from: *b }).collect(),
         };
         if !late.is_empty() {
             return Some(r.pick(&late));
@@ -502,52 +702,87 @@ fn worn(r: &mut Random, floor: &Floor, w: &Wear, pressed: bool) -> Option<Step> 
     None
 }
 
-/// Steps that are all accepted, `most` at most, and the floor behind them. In some of the runs no write is put off towards the end.
-fn worn_steps(r: &mut Random, w: &Wear, n: usize, m: usize, most: usize) -> (Vec<[u8; 8]>, Floor) {
-    let (mut floor, mut records) = (Floor::new(n, m), Vec::new());
-    let early = most - r.pick(&[0, 10, 20, 40]) * n;
-    let mut tried = 0;
+/// A row given back at a run's last begin, and the answers of the attempt before that it dropped.
+type Dropped = (usize, Vec<(Phase, usize)>);
+
+/// Steps that are all accepted, `most` at most, and the floor behind them. In some of the runs no write is put off towards the end, and
+/// some end at a begin that drops the answer to a write: the one of that number.
+fn worn_steps(r: &mut Random, shared: &Shared, head: &Head, most: usize, last: usize) -> (Vec<[u8; 8]>, Floor, Option<Dropped>) {
+    let (mut floor, mut records) = (head.floor(), Vec::new());
+    let early = most - r.pick(&[0, 10, 20, 40]) * head.n;
+    let (mut tried, mut drops) = (0, 0);
     while records.len() < most && tried < 60 {
         tried += 1;
-        let Some(step) = worn(r, &floor, w, tried > 30 || records.len() > early) else { continue };
+        let Some(step) = worn(r, &floor, shared, tried > 30 || records.len() > early) else { continue };
         tried = 0;
+        let dropped = dropped(&floor, step);
         let state = if let Step::Gone { station } = step { floor.stations[station].state } else { State::Idle };
         let said = floor.step(step).expect("the step was chosen because it is accepted");
         records.push(encode(step));
+        if let Some((row, answers)) = dropped.filter(|(_, answers)| answers.iter().any(|(phase, _)| *phase == Phase::Write)) {
+            drops += 1;
+            if drops == last {
+                return (records, floor, Some((row, answers)));
+            }
+        }
         let ended = match (step, said, state) {
             (Step::Deliver { attempt, .. }, Said::Aborted(_) | Said::Decided(_), _) => Some(attempt),
             (_, _, State::Reading(row) | State::Writing(row)) => Some(row),
             _ => None,
         };
-        let Some(row) = ended.filter(|_| r.percent(w.cleared)) else { continue };
-        let mut left = serves(&floor, row);
-        if !left.is_empty() && r.percent(w.but_one) {
-            match w.but_at {
-                Some(b) => left.retain(|step| !matches!(step, Step::Serve { at, .. } if *at == b)),
-                None => drop(left.swap_remove(r.below(left.len()))),
-            }
-        }
-        for step in left.into_iter().take(most - records.len()) {
-            floor.step(step).expect("the request waits");
-            records.push(encode(step));
+        if let Some(row) = ended {
+            clear(r, shared.of(Department::of_row(row)), &mut floor, &mut records, row, most);
         }
     }
-    (records, floor)
+    (records, floor, None)
 }
 
-/// A begin in the next row, and steps behind it that may have been meant for the attempt that was there before.
+/// The row that a begin takes and the answers that it drops.
+fn dropped(floor: &Floor, step: Step) -> Option<Dropped> {
+    let Step::Begin { station, .. } = step else { return None };
+    let row = floor.next_row(floor.stations[station].department)?;
+    Some((row, floor.rows.get(&row).map_or(Vec::new(), on_the_way)))
+}
+
+/// Serves what waits of an attempt that is over, all of it or nearly so, where the run is driven like that.
+fn clear(r: &mut Random, w: &Wear, floor: &mut Floor, records: &mut Vec<[u8; 8]>, row: usize, most: usize) {
+    if !r.percent(w.cleared) {
+        return;
+    }
+    let mut left = serves(floor, row);
+    if !left.is_empty() && r.percent(w.but_one) {
+        match w.but_at {
+            Some(b) => left.retain(|step| !matches!(step, Step::Serve { at, .. } if *at == b)),
+            None => drop(left.swap_remove(r.below(left.len()))),
+        }
+    }
+    for step in left.into_iter().take(most - records.len()) {
+        floor.step(step).expect("the request waits");
+        records.push(encode(step));
+    }
+}
+
+/// A begin in the next row, in one that was used before where there is one, and steps behind it that may have been meant for the attempt
+/// before.
 fn belated(r: &mut Random, floor: &mut Floor, records: &mut Vec<[u8; 8]>) {
-    let (Some(step), Some(row)) = (begin(r, floor, 0), floor.next_row()) else { return };
-    let dropped = floor.rows.get(row).map_or(Vec::new(), on_the_way);
-    floor.step(step).expect("a station is idle and a row free");
+    let worn: Vec<Department> = DEPARTMENTS.into_iter().filter(|d| floor.used(*d) == ROWS).collect();
+    let of = if worn.is_empty() { &DEPARTMENTS[..] } else { &worn };
+    let Some(step) = begin(r, floor, of, 0) else { return };
+    let Some((row, answers)) = dropped(floor, step) else { return };
+    floor.step(step).expect("a station is idle and a row unused or free");
     records.push(encode(step));
+    meant_for_another(r, floor, records, row, &answers);
+}
+
+/// Steps of the attempt in a row, up to one that is turned back, where the attempt before had answers on the way.
+fn meant_for_another(r: &mut Random, floor: &mut Floor, records: &mut Vec<[u8; 8]>, row: usize, answers: &[(Phase, usize)]) {
     for _ in 0..r.between(1, 4) {
         let (phase, b) = match r.below(3) {
-            0 if !dropped.is_empty() => r.pick(&dropped),
+            0 if !answers.is_empty() => r.pick(answers),
             1 => (Phase::Read, r.below(floor.boxes.len())),
             _ => (Phase::Write, r.below(floor.boxes.len())),
         };
-        let deliver = dropped.contains(&(phase, b)) || r.percent(30);
+        let deliver = answers.contains(&(phase, b)) || r.percent(30);
         let step = if deliver { Step::Deliver { phase, attempt: row, from: b } } else { Step::Serve { phase, attempt: row, at: b } };
         records.push(encode(step));
         if floor.step(step).is_err() {
@@ -556,55 +791,85 @@ fn belated(r: &mut Random, floor: &mut Floor, records: &mut Vec<[u8; 8]>) {
     }
 }
 
+/// The head of a run through more attempts than rows: in version 2 mostly with as many stations in one department as in the other.
+fn worn_head(r: &mut Random, many: bool) -> Head {
+    let n = if many { r.pick(&[1, 1, 1, 2, 3]) } else { r.pick(&[1, 1, 2, 2, 3, 3, 3, 4, 4, 5, 6, 7, 8, 9]) };
+    let version = version(r);
+    let m = match (version, many) {
+        (1, true) => r.pick(&[2, 3, 16]),
+        (1, false) => r.pick(&[2, 3, 4, 6, 8, 12, 16, 16, 16]),
+        (_, true) => r.pick(&[4, 6, 16]),
+        (_, false) => r.pick(&[4, 6, 8, 12, 16, 16, 16]),
+    };
+    if version == 2 && r.percent(70) {
+        return Head { version, n, departments: (0..m).map(|s| (s % 2) as u8).collect() };
+    }
+    head_of(r, version, n, m)
+}
+
 /// A run through more attempts than there are rows, accepted whole, or turned back at its last step or before.
 fn given_back(r: &mut Random) -> Vec<u8> {
     let many = r.percent(5);
-    let n = if many { r.pick(&[1, 1, 1, 2, 3]) } else { r.pick(&[1, 1, 2, 2, 3, 3, 3, 4, 4, 5, 6, 7, 8, 9]) };
-    let m = if many { r.pick(&[2, 3, 16]) } else { r.pick(&[2, 3, 4, 6, 8, 12, 16, 16, 16]) };
-    let w = if many { brisk(r) } else { wear(r, n, m) };
-    let most = if many || r.percent(5) { 4096 } else { 100 * n + r.pick(&[300, 300, 500, 800, 1500]) };
-    let (mut records, mut floor) = worn_steps(r, &w, n, m, most);
-    let full = floor.next_row().is_none();
-    match r.below(3) {
-        0 if !full => {}
-        1 if !full => {
+    let head = worn_head(r, many);
+    let driven = [0, 1].map(|_| if many { brisk(r) } else { wear(r, head.n, head.m()) });
+    let shared = shared(r, &head, driven);
+    let most = if many || r.percent(5) { 4096 } else { 100 * head.n + r.pick(&[300, 300, 500, 800, 1500]) };
+    // where both departments have a share in the steps, as many for each
+    let twice = if (40..=60).contains(&shared.sails) { 2 } else { 1 };
+    let last = if r.percent(20) { r.between(1, 12) } else { 0 };
+    let (mut records, mut floor, dropped) = worn_steps(r, &shared, &head, (twice * most).min(4096), last);
+    let full = !full(&floor).is_empty();
+    match (dropped, r.below(3)) {
+        (Some((row, answers)), _) => {
+            meant_for_another(r, &mut floor, &mut records, row, &answers);
+            more(r, &floor, &mut records);
+        }
+        (None, 0) if !full => {}
+        (None, 1) if !full => {
             belated(r, &mut floor, &mut records);
             more(r, &floor, &mut records);
         }
-        _ => {
-            let refusal = if full { r.pick(&[12, 12, 12, 12, 11, 11, 10, 9, 9, 8]) } else { r.pick(&[14, 14, 14, 13, 11, 10, 9, 8]) };
-            let gone = Step::Gone { station: r.below(m) };
-            if refusal == 9 && floor.step(gone).is_ok() {
-                records.push(encode(gone));
-            }
-            if let Some(record) = turned_back(r, &floor, refusal) {
-                records.push(record);
-                more(r, &floor, &mut records);
-            }
-        }
+        _ => worn_end(r, &mut floor, &mut records, full),
     }
     records.truncate(4096);
     let length = r.between(1, 24);
     let name = label(r, length);
-    frame(n as u8, m as u8, &name, &records)
+    frame(&head, &name, &records)
+}
+
+/// A record that is turned back, and what follows it. Where a department has no row, a begin of the other may come first.
+fn worn_end(r: &mut Random, floor: &mut Floor, records: &mut Vec<[u8; 8]>, full: bool) {
+    let refusal = if full { r.pick(&[12, 12, 12, 12, 12, 11, 11, 10, 9, 9, 8]) } else { r.pick(&[14, 14, 14, 13, 11, 10, 9, 8, 8]) };
+    let first = match refusal {
+        9 => Some(Step::Gone { station: r.below(floor.stations.len()) }),
+        _ if full => begin(r, floor, &DEPARTMENTS, 0),
+        _ => None,
+    };
+    if let Some(step) = first.filter(|step| floor.step(*step).is_ok()) {
+        records.push(encode(step));
+    }
+    if let Some(record) = turned_back(r, floor, refusal) {
+        records.push(record);
+        more(r, floor, records);
+    }
 }
 
 fn short_run(r: &mut Random) -> Vec<u8> {
-    let (n, m) = sizes(r);
+    let head = head(r);
     let most = r.below(60);
-    let (records, _) = accepted_steps(r, n, m, most);
+    let (records, _) = accepted_steps(r, &head, most);
     let length = r.between(1, 32);
     let name = label(r, length);
-    frame(n as u8, m as u8, &name, &records)
+    frame(&head, &name, &records)
 }
 
 /// A file that is right but for the length of its label, which may be too long or nothing at all.
 fn mislabelled(r: &mut Random) -> Vec<u8> {
-    let (n, m) = sizes(r);
-    let (records, _) = accepted_steps(r, n, m, 10);
+    let head = head(r);
+    let (records, _) = accepted_steps(r, &head, 10);
     let length = r.pick(&[0, 1, 32, 33, 33, 34, 64, 127, 255]);
     let name = label(r, length);
-    frame(n as u8, m as u8, &name, &records)
+    frame(&head, &name, &records)
 }
 
 /// One to three faults in the header, so that the order of the checks shows.
@@ -620,7 +885,7 @@ fn damaged(r: &mut Random) -> Vec<u8> {
                 file[..2].copy_from_slice(&l.to_be_bytes());
             }
             1 => file.swap(0, 1),
-            2 => file[2] = r.pick(&[0, 2, 3, 129, 255]),
+            2 => file[2] = r.pick(&[0, 3, 3 - file[2].min(3), 129, 255]),
             3 => file[3] = r.pick(&[0, 10, 11, 255]),
             4 => file[4] = r.pick(&[0, 17, 18, 255]),
             5 => file[5] = r.pick(&[0, 33, 34, 64, 255]),
@@ -654,41 +919,85 @@ fn damaged(r: &mut Random) -> Vec<u8> {
     file
 }
 
+/// A file whose department bytes are wrong or missing, alone or beside another fault; one that has them and nothing behind; and one of the
+/// other version.
+fn miscalled(r: &mut Random) -> Vec<u8> {
+    let (n, m) = sizes(r);
+    let head = head_of(r, 2, n, m);
+    let (records, _) = accepted_steps(r, &head, 12);
+    let length = r.between(1, 32);
+    let name = label(r, length);
+    let mut file = frame(&head, &name, &records);
+    let (first, any) = (behind_label(&file), r.below(m));
+    let one = first + r.pick(&[0, m - 1, any]);
+    match r.below(10) {
+        0..=4 => file[one] = no_department(r),
+        5 | 6 => file.truncate(one),
+        7 => file.truncate(first + m),
+        8 => drop(file.drain(first..first + r.pick(&[1, m]))),
+        _ => file[2] = r.pick(&[0, 1, 3]),
+    }
+    match r.below(8) {
+        // a byte of the label
+        0 | 1 => file[6 + r.below(length)] = r.pick(&[0, 32, 127, 255]),
+        // no whole record at the end
+        2 | 3 => file.extend((0..r.between(1, 7)).map(|_| r.below(2) as u8)),
+        // too many records
+        4 => file.resize(first + m + 8 * r.pick(&[4096, 4097]), 0),
+        5 => file[r.pick(&[2, 3, 4])] = r.pick(&[0, 3, 17]),
+        _ => {}
+    }
+    sign(&mut file);
+    file
+}
+
 /// Files of small sizes and of sizes about the limit, their L right.
 fn sized(r: &mut Random) -> Vec<u8> {
-    let size = match r.below(3) {
+    let size = match r.below(5) {
         0 | 1 => r.below(61),
-        _ => r.pick(&[5, 6, 7, 14, 15, 32_798, 32_799, 32_805, 32_806, 32_807, 32_808, 40_000, 65_537, 65_538, 65_539, 70_000]),
+        2 => r.pick(&[5, 6, 7, 14, 15, 32_798, 32_799, 40_000, 65_537, 65_538, 65_539, 70_000]),
+        _ => r.pick(&[32_805, 32_806, 32_807, 32_808, 32_814, 32_821, 32_822, 32_822, 32_823, 32_823, 32_824]),
     };
-    let (n, m) = sizes(r);
-    let length = if r.percent(60) { size.saturating_sub(6) % 8 } else { r.between(1, 32) };
-    let mut file = vec![0, 0, 1, n as u8, m as u8, length as u8];
-    file.extend(label(r, length.min(32)));
-    if r.percent(50) {
-        file.extend(encode(Step::Begin { station: 0, round: 1, revision: 7 }));
-    }
+    let head = head(r);
+    let count = if head.version == 2 { head.m() } else { 0 };
+    let length = if r.percent(60) { size.saturating_sub(6 + count) % 8 } else { r.between(1, 32) };
+    let name = label(r, length);
+    let records = if r.percent(50) { vec![encode(Step::Begin { station: 0, round: 1, revision: 7 })] } else { Vec::new() };
+    let mut file = frame(&head, &name, &records);
     file.resize(size, 0);
     sign(&mut file);
     file
 }
 
+/// The head of a file that may have the most bytes of its version.
+fn head_of_longest(r: &mut Random) -> Head {
+    let (n, version) = (r.between(1, 9), version(r));
+    head_of(r, version, n, 16)
+}
+
 /// As many records as a file may have, one fewer, one more, and as many as fit.
 fn crowded(r: &mut Random) -> Vec<u8> {
-    let (n, m) = sizes(r);
-    let (mut records, floor) = accepted_steps(r, n, m, 300);
-    let count = r.pick(&[4095, 4096, 4096, 4097, 4098, 4099]);
-    let length = if r.percent(60) { r.between(1, 24) } else { r.pick(&[1, 23, 24, 25, 32]) };
+    let longest = r.percent(25);
+    let head = if longest { head_of_longest(r) } else { head(r) };
+    let (mut records, floor) = accepted_steps(r, &head, 300);
+    let count = if longest { r.pick(&[4096, 4096, 4096, 4097]) } else { r.pick(&[4095, 4096, 4096, 4097, 4098, 4099]) };
+    let length = if longest { r.pick(&[31, 32, 32, 32]) } else { r.between(1, 32) };
     while records.len() < count {
         records.push(encode(about(r, &floor)));
     }
     let name = label(r, length);
-    frame(n as u8, m as u8, &name, &records)
+    frame(&head, &name, &records)
 }
 
-/// A good file with some bits turned over, most of them in its records.
+/// Where the department bytes of a file stand, or its records.
+fn behind_label(file: &[u8]) -> usize {
+    6 + file[5] as usize
+}
+
+/// A good file with some bits turned over, most of them behind its label.
 fn flipped(r: &mut Random) -> Vec<u8> {
     let mut file = short_run(r);
-    let from = if r.percent(75) { (6 + file[5] as usize).min(file.len() - 1) } else { 0 };
+    let from = if r.percent(75) { behind_label(&file).min(file.len() - 1) } else { 0 };
     for _ in 0..r.pick(&[1, 1, 2, 5]) {
         let at = r.between(from, file.len() - 1);
         file[at] ^= 1 << r.below(8);
@@ -698,14 +1007,14 @@ fn flipped(r: &mut Random) -> Vec<u8> {
 
 /// A good header, and records of any bytes among others that are near to being accepted.
 fn wild_records(r: &mut Random) -> Vec<u8> {
-    let (n, m) = sizes(r);
-    let (mut records, floor) = accepted_steps(r, n, m, 20);
+    let head = head(r);
+    let (mut records, floor) = accepted_steps(r, &head, 20);
     for _ in 0..r.below(200) {
         let record = if r.percent(20) { (r.next()).to_be_bytes() } else { encode(about(r, &floor)) };
         records.push(record);
     }
     let name = label(r, 4);
-    frame(n as u8, m as u8, &name, &records)
+    frame(&head, &name, &records)
 }
 
 fn noise(r: &mut Random) -> Vec<u8> {
@@ -714,7 +1023,7 @@ fn noise(r: &mut Random) -> Vec<u8> {
     if r.percent(60) {
         sign(&mut file);
     }
-    for (at, byte) in [(2, 1), (3, r.between(1, 9)), (4, r.between(1, 16)), (5, r.between(1, 32))] {
+    for (at, byte) in [(2, r.between(1, 2)), (3, r.between(1, 9)), (4, r.between(1, 16)), (5, r.between(1, 32))] {
         if at < file.len() && r.percent(70) {
             file[at] = byte as u8;
         }

@@ -3,11 +3,37 @@
 //! at the trace that it keeps.
 #![allow(dead_code)]
 
+use std::collections::BTreeMap;
 use std::fmt::Write as _;
 use std::io::{Read, Write as _};
 
 /// The number of a refusal in document 01, "Turned back, in checking order".
 pub type Refusal = u8;
+
+/// Document 02, wish 6: the departments. A file says 0 for sails and 1 for canvas.
+#[derive(Clone, Copy, Debug, PartialEq)]
+pub enum Department {
+    Sails,
+    Canvas,
+}
+
+pub const DEPARTMENTS: [Department; 2] = [Department::Sails, Department::Canvas];
+
+/// How many rows each department has.
+pub const ROWS: usize = 64;
+
+impl Department {
+    /// The numbers of its rows: 0 to 63 are sails', 64 to 127 canvas'.
+    pub fn rows(self) -> std::ops::Range<usize> {
+        let first = if self == Department::Sails { 0 } else { 64 };
+        first..first + ROWS
+    }
+
+    /// The department of the row of that number.
+    pub fn of_row(row: usize) -> Department {
+        if Department::Sails.rows().contains(&row) { Department::Sails } else { Department::Canvas }
+    }
+}
 
 /// One record of a drill file.
 #[derive(Clone, Copy, Debug, PartialEq)]
@@ -57,10 +83,17 @@ pub enum Answer {
     Outranked,
 }
 
-#[derive(Clone, Debug)]
-pub struct StorageBox {
+/// The record that a box keeps for one department.
+#[derive(Clone, Debug, PartialEq)]
+pub struct Register {
     pub read_rank: u32,
     pub held: Held,
+}
+
+#[derive(Clone, Debug)]
+pub struct StorageBox {
+    pub sails: Register,
+    pub canvas: Register,
     pub stopped: bool,
 }
 
@@ -73,15 +106,16 @@ pub enum State {
     Gone,
 }
 
-#[derive(Clone, Debug)]
+#[derive(Clone, Debug, PartialEq)]
 pub struct Station {
+    pub department: Department,
     pub state: State,
     pub last_round: u32,
     pub last_rank: u32,
     pub decided: Option<u32>,
 }
 
-#[derive(Clone, Debug)]
+#[derive(Clone, Debug, PartialEq)]
 pub struct Attempt {
     pub station: usize,
     pub rank: u32,
@@ -95,13 +129,11 @@ pub struct Attempt {
 pub struct Floor {
     pub boxes: Vec<StorageBox>,
     pub stations: Vec<Station>,
-    /// The rows used so far, each with the attempt that was begun in it last.
-    pub rows: Vec<Attempt>,
+    /// The rows used so far by their numbers, each with the attempt that was begun in it last.
+    pub rows: BTreeMap<usize, Attempt>,
 }
 
-pub const ROWS: usize = 64;
-
-impl StorageBox {
+impl Register {
     fn write_rank(&self) -> u32 {
         self.held.map_or(0, |(r, _)| r)
     }
@@ -130,11 +162,28 @@ impl StorageBox {
     }
 }
 
+impl StorageBox {
+    pub fn register(&self, department: Department) -> &Register {
+        if department == Department::Sails { &self.sails } else { &self.canvas }
+    }
+
+    fn register_mut(&mut self, department: Department) -> &mut Register {
+        if department == Department::Sails { &mut self.sails } else { &mut self.canvas }
+    }
+}
+
 impl Floor {
-    pub fn new(n: usize, m: usize) -> Floor {
-        let storage_box = StorageBox { read_rank: 0, held: None, stopped: false };
-        let station = Station { state: State::Idle, last_round: 0, last_rank: 0, decided: None };
-        Floor { boxes: vec![storage_box; n], stations: vec![station; m], rows: Vec::new() }
+    /// A new floor of n boxes, with a station for each department named.
+    pub fn new(n: usize, departments: &[Department]) -> Floor {
+        let register = Register { read_rank: 0, held: None };
+        let storage_box = StorageBox { sails: register.clone(), canvas: register, stopped: false };
+        let station = |d: &Department| Station { department: *d, state: State::Idle, last_round: 0, last_rank: 0, decided: None };
+        Floor { boxes: vec![storage_box; n], stations: departments.iter().map(station).collect(), rows: BTreeMap::new() }
+    }
+
+    /// How many of its rows a department has used.
+    pub fn used(&self, department: Department) -> usize {
+        self.rows.range(department.rows()).count()
     }
 
     /// q: n / 2 rounded down, plus 1.
@@ -144,25 +193,27 @@ impl Floor {
 
     /// Document 02, wish 5: an attempt is over when its station no longer reads or writes in it.
     pub fn over(&self, row: usize) -> bool {
-        let state = self.stations[self.rows[row].station].state;
+        let state = self.stations[self.rows[&row].station].state;
         state != State::Reading(row) && state != State::Writing(row)
     }
 
     /// Document 02, wish 5: a row is free once its attempt is over and its issued requests are served at every box not stopped.
     pub fn free(&self, row: usize) -> bool {
-        let attempt = &self.rows[row];
+        let attempt = &self.rows[&row];
         let waits = |b: usize| attempt.reads[b] == Request::Waiting || attempt.writes[b] == Request::Waiting;
         self.over(row) && (0..self.boxes.len()).all(|b| self.boxes[b].stopped || !waits(b))
     }
 
-    /// Document 02, wish 5: the row that a begin takes. With all used it is the free one with the smallest rank, of equals the lowest.
-    pub fn next_row(&self) -> Option<usize> {
-        if self.rows.len() < ROWS {
-            return Some(self.rows.len());
+    /// Document 02, wishes 5 and 6: the row of its department that a begin takes: the next unused one. With all used it is the free one
+    /// with the smallest rank, of equals the lowest.
+    pub fn next_row(&self, department: Department) -> Option<usize> {
+        let used = self.used(department);
+        if used < ROWS {
+            return Some(department.rows().start + used);
         }
         let mut next: Option<usize> = None;
-        for row in 0..self.rows.len() {
-            if self.free(row) && next.map_or(true, |other| self.rows[row].rank < self.rows[other].rank) {
+        for (&row, attempt) in self.rows.range(department.rows()) {
+            if self.free(row) && next.map_or(true, |other| attempt.rank < self.rows[&other].rank) {
                 next = Some(row);
             }
         }
@@ -176,11 +227,11 @@ impl Floor {
             Step::Deliver { phase: Phase::Read, attempt, from } => self.deliver_read(attempt, from),
             Step::Deliver { phase: Phase::Write, attempt, from } => self.deliver_write(attempt, from),
             Step::Stop { at } => {
-                let b = self.boxes.get_mut(at).ok_or(8)?;
-                if b.stopped {
+                let storage = self.boxes.get_mut(at).ok_or(8)?;
+                if storage.stopped {
                     return Err(13);
                 }
-                b.stopped = true;
+                storage.stopped = true;
                 Ok(Said::Stopped(at))
             }
             Step::Gone { station } => {
@@ -204,7 +255,7 @@ impl Floor {
         if revision == 0 || round == 0 || round <= s.last_round {
             return Err(11);
         }
-        let number = self.next_row().ok_or(12)?;
+        let number = self.next_row(s.department).ok_or(12)?;
         let rank = round * 16 + station as u32;
         let s = &mut self.stations[station];
         s.state = State::Reading(number);
@@ -219,34 +270,31 @@ impl Floor {
             reads: vec![Request::Waiting; n],
             writes: vec![Request::NotIssued; n],
         };
-        if number == self.rows.len() {
-            self.rows.push(attempt);
-        } else {
-            // what was in the row, answers on the way too, is dropped
-            self.rows[number] = attempt;
-        }
+        // what was in the row, answers on the way too, is dropped
+        self.rows.insert(number, attempt);
         Ok(Said::Begun(number))
     }
 
     fn serve(&mut self, phase: Phase, number: usize, at: usize) -> Result<Said, Refusal> {
-        let attempt = self.rows.get_mut(number).ok_or(8)?;
+        let attempt = named(&mut self.rows, number)?;
         let b = self.boxes.get_mut(at).ok_or(8)?;
         if b.stopped {
             return Err(13);
         }
+        let register = b.register_mut(Department::of_row(number));
         match phase {
             Phase::Read => {
                 if attempt.reads[at] != Request::Waiting {
                     return Err(14);
                 }
-                attempt.reads[at] = Request::OnTheWay(b.read(attempt.rank));
+                attempt.reads[at] = Request::OnTheWay(register.read(attempt.rank));
             }
             Phase::Write => {
                 if attempt.writes[at] != Request::Waiting {
                     return Err(14);
                 }
                 let revision = attempt.written.expect("a write that waits was issued");
-                attempt.writes[at] = Request::OnTheWay(b.write(attempt.rank, revision));
+                attempt.writes[at] = Request::OnTheWay(register.write(attempt.rank, revision));
             }
         }
         Ok(Said::Served(number))
@@ -254,7 +302,7 @@ impl Floor {
 
     fn deliver_read(&mut self, number: usize, from: usize) -> Result<Said, Refusal> {
         let q = self.quorum();
-        let attempt = self.rows.get_mut(number).ok_or(8)?;
+        let attempt = named(&mut self.rows, number)?;
         if from >= self.boxes.len() {
             return Err(8);
         }
@@ -292,7 +340,7 @@ impl Floor {
 
     fn deliver_write(&mut self, number: usize, from: usize) -> Result<Said, Refusal> {
         let q = self.quorum();
-        let attempt = self.rows.get_mut(number).ok_or(8)?;
+        let attempt = named(&mut self.rows, number)?;
         if from >= self.boxes.len() {
             return Err(8);
         }
@@ -315,6 +363,11 @@ impl Floor {
             Ok(Said::Aborted(number))
         }
     }
+}
+
+/// The attempt that a number means: the one begun last in that row of its department.
+fn named(rows: &mut BTreeMap<usize, Attempt>, number: usize) -> Result<&mut Attempt, Refusal> {
+    rows.get_mut(&number).ok_or(8)
 }
 
 /// The answers received so far, in order of the boxes.
@@ -345,20 +398,32 @@ pub fn decode(record: &[u8]) -> Result<Step, Refusal> {
 
 /// The parts of a file that is not refused before its records.
 pub struct Parts<'a> {
+    pub version: u8,
     pub n: usize,
     pub m: usize,
     pub label: &'a str,
+    /// The department bytes: none in version 1.
+    pub departments: &'a [u8],
     pub records: std::slice::Chunks<'a, u8>,
 }
 
+impl Parts<'_> {
+    /// The department of each station: in version 1 all are sails.
+    pub fn stations(&self) -> Vec<Department> {
+        let department = |s: usize| if self.departments.get(s) == Some(&1) { Department::Canvas } else { Department::Sails };
+        (0..self.m).map(department).collect()
+    }
+}
+
 pub fn parts(file: &[u8]) -> Result<Parts<'_>, Refusal> {
-    if file.len() < 6 || file.len() > 32_806 {
+    if file.len() < 6 || file.len() > 32_822 {
         return Err(1);
     }
     if u16::from_be_bytes([file[0], file[1]]) as usize != file.len() - 2 {
         return Err(1);
     }
-    if file[2] != 1 {
+    let version = file[2];
+    if version != 1 && version != 2 {
         return Err(2);
     }
     let (n, m) = (file[3] as usize, file[4] as usize);
@@ -373,23 +438,34 @@ pub fn parts(file: &[u8]) -> Result<Parts<'_>, Refusal> {
     if !label.iter().all(|b| (33..=126).contains(b)) {
         return Err(4);
     }
-    let rest = &file[6 + length..];
+    let count = if version == 2 { m } else { 0 };
+    let behind = &file[6 + length..];
+    let departments = behind.get(..count).ok_or(22)?;
+    if !departments.iter().all(|b| (0..=1).contains(b)) {
+        return Err(22);
+    }
+    let rest = &behind[count..];
     if rest.len() % 8 != 0 || rest.len() / 8 > 4096 {
         return Err(5);
     }
-    Ok(Parts { n, m, label: std::str::from_utf8(label).expect("its bytes are 33 to 126"), records: rest.chunks(8) })
+    let label = std::str::from_utf8(label).expect("its bytes are 33 to 126");
+    Ok(Parts { version, n, m, label, departments, records: rest.chunks(8) })
 }
 
-/// Document 02, wish 1: the file of these parts, for a buffer of that many bytes.
-pub fn write(room: usize, n: u8, m: u8, label: &[u8], records: &[u8]) -> Result<Vec<u8>, Refusal> {
-    let mut file = vec![0, 0, 1, n, m, label.len() as u8];
+/// Document 02, wishes 1 and 6: the file of these parts, for a buffer of that many bytes.
+pub fn write(room: usize, version: u8, n: u8, m: u8, label: &[u8], departments: &[u8], records: &[u8]) -> Result<Vec<u8>, Refusal> {
+    let mut file = vec![0, 0, version, n, m, label.len() as u8];
     file.extend(label);
+    file.extend(departments);
     file.extend(records);
     let after = (file.len() - 2) as u16;
     file[..2].copy_from_slice(&after.to_be_bytes());
+    let wanted = if version == 1 { 0 } else { m as usize };
     let turned_away = [
+        (2, version < 1 || version > 2),
         (3, n < 1 || n > 9 || m < 1 || m > 16),
         (4, label.is_empty() || label.len() > 32 || label.iter().any(|b| *b < 33 || *b > 126)),
+        (22, departments.len() != wanted || departments.iter().any(|d| *d > 1)),
         (5, records.len() % 8 != 0 || records.len() > 4096 * 8),
         (18, room < file.len()),
     ];
@@ -408,7 +484,7 @@ pub struct Played {
 }
 
 pub fn play(parts: &Parts) -> Played {
-    let mut floor = Floor::new(parts.n, parts.m);
+    let mut floor = Floor::new(parts.n, &parts.stations());
     let mut trace = Vec::new();
     for record in parts.records.clone() {
         let said = decode(record).and_then(|step| floor.step(step).map(|said| (step, said)));

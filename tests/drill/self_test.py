@@ -2,9 +2,9 @@
 processors.
 
 The comparison, which uses the right reference, has to tell the faulty program from it, by what it prints or by how it ends. Where the
-fault names a claim of demand 3 that it breaks, a comparison that uses the faulty reference has to find that claim broken in its own
-trace. A fault of the writer is put into the reference that the writer is compared with, and write.rs has to find the two different.
-`full` looks for a broken claim with the other faults too, wants none, and prints a line for each fault.
+fault names a claim that it breaks, one of demand 3 or the deletion, a comparison that uses the faulty reference, as its program too, has
+to find that claim broken. A fault of the writer is put into the reference that the writer is compared with, and write.rs has to find the
+two different. `full` looks for a broken claim with the other faults too, wants none, and prints a line for each fault.
 """
 import concurrent.futures
 import os
@@ -21,7 +21,7 @@ text = (sources / "faults.txt").read_text()
 faults = re.findall(r"^# (.*)\nold: (.*)\nnew: (.*)\n(?:breaks: (\w+)\n)?(writer\n)?", text + "\n", re.M)
 assert len(faults) == len(re.findall(r"^old: ", text, re.M)), "faults.txt: an entry is not as its head says"
 named = {claim for _, _, _, claim, _ in faults if claim}
-assert named == {"agreement", "validity", "abort", "shown"}, f"faults.txt breaks {sorted(named)}, which is not each claim"
+assert named == {"agreement", "validity", "abort", "shown", "deletion"}, f"faults.txt breaks {sorted(named)}, which is not each claim"
 
 
 def rustc(folder, name, level):
@@ -30,23 +30,23 @@ def rustc(folder, name, level):
     subprocess.run(words, check=True)
 
 
-def first_difference(compare, program, left):
-    done = subprocess.run([compare, program, "4000", seed, left], capture_output=True, text=True, timeout=300)
+def first_difference(compare, program, left, *claim):
+    done = subprocess.run([compare, program, "4000", seed, left, *claim], capture_output=True, text=True, timeout=300)
     return done.stdout if done.returncode == 1 else ""
 
 
-def broken_claim(folder):
-    """The claim that a comparison on the faulty reference finds broken, if any."""
+def broken_claim(folder, claim):
+    """The claim that a comparison on the faulty reference finds broken, if any; where one is named, that one."""
     rustc(folder, "compare", 1 if full else 0)
-    said = first_difference(folder / "compare", folder / "reference", folder / "left")
-    found = re.search(r"the reference's own trace breaks (\w+):", said)
+    said = first_difference(folder / "compare", folder / "reference", folder / "left", *([claim] if claim else []))
+    found = re.search(r"(?:the reference's own trace|the program) breaks (\w+):", said)
     return found[1] if found else ""
 
 
 def writer_differs(folder):
     """Whether the writer is told from that of the faulty reference."""
-    rustc(folder, "write", 1)
-    done = subprocess.run([folder / "write", "400", seed, folder / "left"], capture_output=True, text=True, timeout=300)
+    rustc(folder, "write", 0)
+    done = subprocess.run([folder / "write", "100", seed, folder / "left"], capture_output=True, text=True, timeout=300)
     return done.returncode == 1 and "expected refusal" in done.stdout
 
 
@@ -62,7 +62,7 @@ def try_fault(number):
     rustc(folder, "reference", 1 if full else 0)
     said = first_difference(out / "compare", folder / "reference", folder / "left")
     noticed = re.search(r": expected\n.*^printed\n|: the program ended with", said, re.M | re.S)
-    return bool(noticed), broken_claim(folder) if claim or full else ""
+    return bool(noticed), broken_claim(folder, claim) if claim or full else ""
 
 
 shutil.rmtree(out / "faulty", ignore_errors=True)

@@ -13,10 +13,13 @@ extern "C" {
     fn drill_write(
         buffer: *mut u8,
         buffer_len: usize,
+        version: u8,
         n: u8,
         m: u8,
         label: *const u8,
         label_len: usize,
+        departments: *const u8,
+        departments_len: usize,
         records: *const u8,
         records_len: usize,
         size: *mut usize,
@@ -32,16 +35,19 @@ const ABOUT: usize = 16;
 fn written(h: &Handed) -> Result<Left, String> {
     let about = [0x5A; ABOUT];
     let mut space = [&about, h.buffer.as_slice(), &about].concat();
-    let (label, records) = (h.label.clone(), h.records.clone());
+    let (label, departments, records) = (h.label.clone(), h.departments.clone(), h.records.clone());
     let mut size = usize::MAX;
     let refusal = unsafe {
         drill_write(
             space.as_mut_ptr().add(ABOUT),
             h.buffer.len(),
+            h.version,
             h.n,
             h.m,
             label.as_ptr(),
             label.len(),
+            departments.as_ptr(),
+            departments.len(),
             records.as_ptr(),
             records.len(),
             &mut size,
@@ -50,15 +56,15 @@ fn written(h: &Handed) -> Result<Left, String> {
     if space[..ABOUT] != about || space[ABOUT + h.buffer.len()..] != about {
         return Err("a byte beyond the buffer is changed".to_string());
     }
-    if label != h.label || records != h.records {
-        return Err("a byte of the label or of the records is changed".to_string());
+    if label != h.label || departments != h.departments || records != h.records {
+        return Err("a byte of the label, of the departments or of the records is changed".to_string());
     }
     Ok((refusal, size, space[ABOUT..ABOUT + h.buffer.len()].to_vec()))
 }
 
 /// What document 02 says it leaves: the file and what stood behind it, or the buffer as it was.
 fn expected(h: &Handed) -> Left {
-    match reference::write(h.buffer.len(), h.n, h.m, &h.label, &h.records) {
+    match reference::write(h.buffer.len(), h.version, h.n, h.m, &h.label, &h.departments, &h.records) {
         Err(refusal) => (refusal as u32, 0, h.buffer.clone()),
         Ok(file) => (0, file.len(), [&file, &h.buffer[file.len().min(h.buffer.len())..]].concat()),
     }
@@ -82,7 +88,15 @@ fn again(file: &[u8]) -> Result<bool, String> {
     let records: Vec<u8> = parts.records.clone().flatten().copied().collect();
     for room in [file.len(), file.len() + 9, file.len() - 1] {
         let buffer: Vec<u8> = (0..room).map(|at| (at * 7 + 3) as u8).collect();
-        let h = Handed { buffer, n: parts.n as u8, m: parts.m as u8, label: parts.label.as_bytes().to_vec(), records: records.clone() };
+        let h = Handed {
+            buffer,
+            version: parts.version,
+            n: parts.n as u8,
+            m: parts.m as u8,
+            label: parts.label.as_bytes().to_vec(),
+            departments: parts.departments.to_vec(),
+            records: records.clone(),
+        };
         compare(&h)?;
         let (refusal, size, left) = written(&h)?;
         let same = refusal == 0 && size == file.len() && left[..size] == *file;
@@ -128,7 +142,7 @@ fn main() {
         }
     }
     // each answer came, about one time in a hundred or more often
-    for refusal in [0, 3, 4, 5, 18] {
+    for refusal in [0, 2, 3, 4, 22, 5, 18] {
         assert!(times.get(&refusal).is_some_and(|t| 100 * t >= 25 * count), "refusal {refusal} came too seldom: {times:?}");
     }
     println!("write: {files} files written again, {} sets of parts compared", 25 * count);

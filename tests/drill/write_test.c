@@ -1,5 +1,5 @@
-/* Document 01's example of a drill file, written from C and from C++ as the header says. Prints nothing; any failure ends it with another
- * exit status than 0. */
+/* Document 01's example of a drill file, and the same drill in version 2 with its station in the canvas department, written from C and
+ * from C++ as the header says. Prints nothing; any failure ends it with another exit status than 0. */
 #include "drill_writer.h"
 
 #include <string.h>
@@ -7,8 +7,11 @@
 static const uint8_t file[50] = {0x00, 0x30, 0x01, 0x01, 0x01, 0x04, 0x6C, 0x75, 0x66, 0x66, 0x01, 0x00, 0x00, 0x01, 0x00, 0x00, 0x00,
                                  0x07, 0x02, 0,    0,    0,    0,    0,    0,    0,    0x04, 0,    0,    0,    0,    0,    0,    0,
                                  0x03, 0,    0,    0,    0,    0,    0,    0,    0x05, 0,    0,    0,    0,    0,    0,    0};
+/* of version 2, what stands before the records */
+static const uint8_t front[11] = {0x00, 0x31, 0x02, 0x01, 0x01, 0x04, 0x6C, 0x75, 0x66, 0x66, 0x01};
 
 int main(void) {
+    static const uint8_t departments[17] = {1, 0, 1, 2};
     const uint8_t *label = file + 6, *records = file + 10;
     uint8_t buffer[DRILL_MOST_BYTES], before[DRILL_MOST_BYTES];
     size_t size = 1;
@@ -16,18 +19,28 @@ int main(void) {
     memcpy(buffer, before, sizeof buffer);
 
     /* refused: the buffer is as it was, the size 0 */
-    if (drill_write(buffer, 49, 1, 1, label, 4, records, 40, &size) != DRILL_REFUSED_BUFFER) return 1;
+    if (drill_write(buffer, 49, 1, 1, 1, label, 4, departments, 0, records, 40, &size) != DRILL_REFUSED_BUFFER) return 1;
     if (size != 0 || memcmp(buffer, before, sizeof buffer) != 0) return 2;
-    if (drill_write(buffer, 0, 10, 1, label, 33, records, 41, &size) != DRILL_REFUSED_SIZES || size != 0) return 3;
-    if (drill_write(buffer, 0, 9, 16, label, 0, records, 41, &size) != DRILL_REFUSED_LABEL || size != 0) return 4;
-    if (drill_write(buffer, 0, 9, 16, label, 4, records, 39, &size) != DRILL_REFUSED_RECORDS || size != 0) return 5;
-    if (memcmp(buffer, before, sizeof buffer) != 0) return 6;
+    if (drill_write(buffer, 0, 3, 10, 1, label, 33, departments, 4, records, 41, &size) != DRILL_REFUSED_VERSION || size != 0) return 3;
+    if (drill_write(buffer, 0, 2, 10, 1, label, 33, departments, 4, records, 41, &size) != DRILL_REFUSED_SIZES || size != 0) return 4;
+    if (drill_write(buffer, 0, 2, 9, 16, label, 0, departments, 4, records, 41, &size) != DRILL_REFUSED_LABEL || size != 0) return 5;
+    if (drill_write(buffer, 0, 1, 9, 3, label, 4, departments, 1, records, 41, &size) != DRILL_REFUSED_DEPARTMENTS || size != 0) return 6;
+    if (drill_write(buffer, 0, 2, 9, 3, label, 4, departments, 2, records, 41, &size) != DRILL_REFUSED_DEPARTMENTS || size != 0) return 7;
+    if (drill_write(buffer, 0, 2, 9, 16, label, 4, departments, 17, records, 41, &size) != DRILL_REFUSED_DEPARTMENTS || size != 0) return 8;
+    if (drill_write(buffer, 0, 2, 9, 4, label, 4, departments, 4, records, 41, &size) != DRILL_REFUSED_DEPARTMENTS || size != 0) return 9;
+    if (drill_write(buffer, 0, 2, 9, 3, label, 4, departments, 3, records, 39, &size) != DRILL_REFUSED_RECORDS || size != 0) return 10;
+    if (drill_write(buffer, 50, 2, 1, 1, label, 4, departments, 1, records, 40, &size) != DRILL_REFUSED_BUFFER || size != 0) return 11;
+    if (memcmp(buffer, before, sizeof buffer) != 0) return 12;
 
     /* written: the file, and behind it what was there */
-    if (drill_write(buffer, 50, 1, 1, label, 4, records, 40, &size) != DRILL_WRITTEN || size != 50) return 7;
-    if (memcmp(buffer, file, 50) != 0 || memcmp(buffer + 50, before + 50, sizeof buffer - 50) != 0) return 8;
+    if (drill_write(buffer, 50, 1, 1, 1, label, 4, departments, 0, records, 40, &size) != DRILL_WRITTEN || size != 50) return 13;
+    if (memcmp(buffer, file, 50) != 0 || memcmp(buffer + 50, before + 50, sizeof buffer - 50) != 0) return 14;
     memcpy(buffer, before, sizeof buffer);
-    if (drill_write(buffer, sizeof buffer, 1, 1, label, 4, records, 40, &size) != DRILL_WRITTEN || size != 50) return 9;
-    if (memcmp(buffer, file, 50) != 0 || memcmp(buffer + 50, before + 50, sizeof buffer - 50) != 0) return 10;
+    if (drill_write(buffer, sizeof buffer, 1, 1, 1, label, 4, departments, 0, records, 40, &size) != DRILL_WRITTEN || size != 50) return 15;
+    if (memcmp(buffer, file, 50) != 0 || memcmp(buffer + 50, before + 50, sizeof buffer - 50) != 0) return 16;
+    memcpy(buffer, before, sizeof buffer);
+    if (drill_write(buffer, 51, 2, 1, 1, label, 4, departments, 1, records, 40, &size) != DRILL_WRITTEN || size != 51) return 17;
+    if (memcmp(buffer, front, 11) != 0 || memcmp(buffer + 11, records, 40) != 0) return 18;
+    if (memcmp(buffer + 51, before + 51, sizeof buffer - 51) != 0) return 19;
     return 0;
 }

@@ -1,21 +1,31 @@
-// Changes of a floor by hand, as records:
+// Changes of a floor by hand, as records; a department is 0 for sails, and 1 for canvas:
 //
-//     f0 boxes stations rows                  how many there are, of rows how many are in use
-//     f1 row station readers writers          the station of a row, and its masks of the boxes whose answers were received; those to
-//                                             reads say what the box held
-//     f2 box read write value stopped         a box
-//     f3 station state attempt last decided   a station; its state counts from 0, in the order of `State`
-//     f7 row boxes                            the answers to the reads of a row that are outranked, as a mask of boxes
-//     fb row rank                             the rank of a row, a number of four bytes
-//     fc rank                                 the highest rank begun, a number of four bytes
+//     f0 boxes stations rows canvas                      how many there are, of rows how many are in use, in sails and in canvas
+//     f1 row station readers writers                     the station of a row, and its masks of the boxes whose answers were
+//                                                        received; those to reads say what the box held
+//     f2 box read write value stopped department         the department's record of a box, and whether the box has stopped
+//     f3 station state attempt last decided department   a station; its state counts from 0, in the order of `State`
+//     f7 row boxes                                       the answers to the reads of a row that are outranked, as a mask of boxes
+//     fb row rank                                        the rank of a row, a number of four bytes
+//     fc rank department                                 the department's highest rank begun, a number of four bytes
 use attempts::Row;
 use attempts::State;
 use attempts::Station;
 use floor::Floor;
+use floor::Share;
+use floor::Shares;
+use register::Department;
 use register::Register;
 use register::StorageBox;
 use requests::Requests;
 use requests::Slot;
+
+pub(crate) fn department(byte: u8) -> Department {
+    if byte == 0 {
+        return Department::Sails;
+    }
+    Department::Canvas
+}
 
 // The answers of the boxes in a mask, each a yes or a no.
 fn answers(old: Requests, boxes: u8, ok: bool) -> Requests {
@@ -53,16 +63,21 @@ fn row(w: Row, r: [u8; 8]) -> Row {
     x
 }
 
-fn storage(r: [u8; 8]) -> StorageBox {
+// A box with the record of one department; that of the other stays.
+fn storage(x: StorageBox, r: [u8; 8]) -> StorageBox {
     let register = Register {
         read: r[2] as u32,
         write: r[3] as u32,
         value: r[4] as u32,
     };
-    StorageBox {
-        register,
-        stopped: r[5] != 0,
+    let mut y = x;
+    y.stopped = r[5] != 0;
+    if r[6] == 0 {
+        y.sails = register;
+        return y;
     }
+    y.canvas = register;
+    y
 }
 
 fn state(number: u8, attempt: u8) -> State {
@@ -77,10 +92,26 @@ fn state(number: u8, attempt: u8) -> State {
 
 fn station(r: [u8; 8]) -> Station {
     Station {
+        department: department(r[6]),
         state: state(r[2], r[3]),
         last: r[4] as u16,
         decided: r[5] as u32,
     }
+}
+
+// The same highest ranks with other numbers of rows in use.
+fn with_rows(old: Shares, in_sails: u8, in_canvas: u8) -> Shares {
+    let s = old.sails;
+    let c = old.canvas;
+    let sails = Share {
+        used: in_sails,
+        highest: s.highest,
+    };
+    let canvas = Share {
+        used: in_canvas,
+        highest: c.highest,
+    };
+    Shares { sails, canvas }
 }
 
 // The floor changed as a record says.
@@ -90,17 +121,18 @@ pub(crate) fn change(mut f: Floor, r: [u8; 8]) -> Floor {
         0xf0 => {
             f.n = place;
             f.m = r[2];
-            f.used = r[3];
+            f.shares = with_rows(f.shares, r[3], r[4]);
         }
         0xf1 => {
-            let a = (place % 64) as usize;
+            let a = (place % 128) as usize;
             f.rows[a] = row(f.rows[a], r);
         }
         0xf2 => {
-            f.boxes[(place % 9) as usize] = storage(r);
+            let b = (place % 9) as usize;
+            f.boxes[b] = storage(f.boxes[b], r);
         }
         0xf7 => {
-            let a = (place % 64) as usize;
+            let a = (place % 128) as usize;
             f.rows[a] = outranked(f.rows[a], r[2]);
         }
         _ => {
@@ -118,14 +150,38 @@ fn ranked(w: Row, rank: u32) -> Row {
 
 // The floor with another rank of a row.
 pub(crate) fn row_rank(mut f: Floor, row: u8, rank: u32) -> Floor {
-    let a = (row % 64) as usize;
+    let a = (row % 128) as usize;
     f.rows[a] = ranked(f.rows[a], rank);
     f
 }
 
-// The floor with another highest rank begun.
-pub(crate) fn highest(mut f: Floor, rank: u32) -> Floor {
-    f.highest = rank;
+fn raised(old: Share, rank: u32) -> Share {
+    Share {
+        used: old.used,
+        highest: rank,
+    }
+}
+
+// The same with another highest rank begun of one department.
+fn with_highest(old: Shares, d: Department, rank: u32) -> Shares {
+    let mut x = old;
+    let s = old.sails;
+    let c = old.canvas;
+    match d {
+        Department::Sails => {
+            x.sails = raised(s, rank);
+            x
+        }
+        Department::Canvas => {
+            x.canvas = raised(c, rank);
+            x
+        }
+    }
+}
+
+// The floor with another highest rank begun of one department.
+pub(crate) fn highest(mut f: Floor, d: Department, rank: u32) -> Floor {
+    f.shares = with_highest(f.shares, d, rank);
     f
 }
 

@@ -18,7 +18,7 @@ mod write;
 fn case(kind: u8, s: &[u8]) {
     let bar = text::find(s, 0, b'|');
     let words = &s[0..bar];
-    let mut out = [0u8; 32807];
+    let mut out = [0u8; 32823];
     let end = notation::bytes(&s[bar..], &mut out);
     let bytes = text::up_to(&out, end);
     match kind {
@@ -29,6 +29,7 @@ fn case(kind: u8, s: &[u8]) {
         b'b' => show::behind(words, bytes),
         b'n' => show::new_floor(s, bytes),
         b'w' => write::parts(s, bytes),
+        b'c' => write::composed(s, bytes),
         b'g' => frame::get(s, bytes),
         b'm' => frame::make(s, bytes),
         b't' => frame::table(s, bytes),
@@ -61,10 +62,10 @@ fn lines(input: &[u8]) {
 }
 
 // Room for the input, which has fewer bytes; its last line is printed, and would be missing if it were cut.
-fn room() -> [u8; 131072]
-    ensures { λ r. ⌜ 131072 ≡ length r ⌝ }
+fn room() -> [u8; 196608]
+    ensures { λ r. ⌜ 196608 ≡ length r ⌝ }
 {
-    [0; 131072]
+    [0; 196608]
 }
 
 fn main() {

@@ -3,9 +3,10 @@
 //
 // Some records stand for others (`expanded`):
 //
-//     f8 boxes count          a chain of that many attempts, each of which outranks the one before (`attempt`), through the 64 rows
-//     f9 size                 zeros up to that size of the file, a number of two bytes
-//     fa kind attempt count   the reads (2) or writes (3) of an attempt at that many boxes from box 0 on (`phase`)
+//     f8 boxes count row station   a chain of that many attempts, each of which outranks the one before (`attempt`), through the 64
+//                                  rows from that row on, by that station and the next
+//     f9 size                      zeros up to that size of the file, a number of two bytes
+//     fa kind attempt count        the reads (2) or writes (3) of an attempt at that many boxes from box 0 on (`phase`)
 use crate::text;
 
 // How far a notation was read: how many bytes it has given, where the present record starts, a digit that waits for the second
@@ -48,23 +49,34 @@ fn phase(out: &mut [u8], at: usize, kind: u8, a: u8, n: u8) -> usize {
     end
 }
 
-// Attempt k of a chain. Stations 0 and 1 begin in turn, each with the lowest round that outranks the other, and offer the
-// revision 256 + k. The read comes before the write of attempt k - 1, which is therefore not taken. From attempt 64 on the rows are
-// taken again in their order: of those that are over the oldest has the smallest rank.
-fn attempt(out: &mut [u8], at: usize, n: u8, k: u8) -> usize {
-    let begun = push_record(out, at, [1, k % 2, 0, k / 2 + 1, 0, 0, 1, k]);
-    let read = phase(out, begun, 2, k % 64, n);
+// Attempt k of a chain. Two stations begin in turn, each with the lowest round that outranks the other, and offer the revision
+// 256 + k, from row 64 on 512 + k. The read comes before the write of attempt k - 1, which is therefore not taken. From attempt 64 on
+// the rows are taken again in their order: of those that are over the oldest has the smallest rank.
+fn attempt(out: &mut [u8], at: usize, n: u8, k: u8, row: u8, station: u8) -> usize {
+    let first = row % 128;
+    let begin = [
+        1,
+        k % 2 + station % 16,
+        0,
+        k / 2 + 1,
+        0,
+        0,
+        first / 64 + 1,
+        k,
+    ];
+    let begun = push_record(out, at, begin);
+    let read = phase(out, begun, 2, k % 64 + first, n);
     if k == 0 {
         return read;
     }
-    phase(out, read, 3, (k - 1) % 64, n)
+    phase(out, read, 3, (k - 1) % 64 + first, n)
 }
 
-fn chain(out: &mut [u8], at: usize, n: u8, count: u8) -> usize {
+fn chain(out: &mut [u8], at: usize, n: u8, count: u8, row: u8, station: u8) -> usize {
     let mut end = at;
     let mut k: u8 = 0;
     while k < count {
-        end = attempt(out, end, n, k);
+        end = attempt(out, end, n, k, row, station);
         k += 1;
     }
     end
@@ -77,7 +89,7 @@ fn expanded(out: &mut [u8], at: usize, end: usize) -> usize {
     let x = r[1];
     let y = r[2];
     match kind {
-        0xf8 => chain(out, at, x, y),
+        0xf8 => chain(out, at, x, y, r[3], r[4]),
         0xf9 => {
             push_record(out, at, [0; 8]);
             text::word(0, 0, x, y) as usize

@@ -2,13 +2,48 @@
 use crate::say;
 use crate::text;
 use floor::Floor;
+use floor::Share;
+use floor::Shares;
 
-// A new floor of one box and sixteen stations, but for so many rows in use and this highest rank begun.
-fn with_rank(used: u8, rank: u32) -> Floor {
-    let made = floor::new_floor(1, 16);
+// What the other department has begun: nothing, or from kind 2 on 64 rows and the highest rank of 32 bits.
+fn other(kind: u8) -> Share {
+    if kind < 2 {
+        return Share {
+            used: 0,
+            highest: 0,
+        };
+    }
+    Share {
+        used: 64,
+        highest: 4294967295,
+    }
+}
+
+// What each department has begun: so many rows in use and this highest rank in that of the kind.
+fn shares(kind: u8, used: u8, rank: u32) -> Shares {
+    let own = Share {
+        used,
+        highest: rank,
+    };
+    let beside = other(kind);
+    if kind % 2 == 0 {
+        return Shares {
+            sails: own,
+            canvas: beside,
+        };
+    }
+    Shares {
+        sails: beside,
+        canvas: own,
+    }
+}
+
+// A new floor of one box and sixteen stations of one department, but for what each has begun.
+fn with_rank(kind: u8, used: u8, rank: u32) -> Floor {
+    let told = [kind % 2; 16];
+    let made = floor::new_floor(1, 16, &told);
     let mut f = made.floor;
-    f.highest = rank;
-    f.used = used;
+    f.shares = shares(kind, used, rank);
     f
 }
 
@@ -27,12 +62,12 @@ fn finish(f: Floor, s: u8) {
 }
 
 // The solo finishes of three stations on a floor with the rank k above a first one; nothing where it passes 32 bits.
-fn stations(used: u8, first: u32, k: u8) {
+fn stations(kind: u8, used: u8, first: u32, k: u8) {
     if 4294967295 - first < k as u32 {
         return;
     }
     let rank = first + k as u32;
-    let f = with_rank(used, rank);
+    let f = with_rank(kind, used, rank);
     text::fill(b"\n  rank %:", &[rank as u64]);
     finish(f, 0);
     text::print(b";");
@@ -41,7 +76,8 @@ fn stations(used: u8, first: u32, k: u8) {
     finish(f, 15);
 }
 
-// The bytes of a case: how many rows are in use, the first rank, and how many ranks from there on.
+// The bytes of a case: how many rows are in use, the first rank, how many ranks from there on, and a kind: the department, 0 or 1, and 2
+// more where the other department has begun something.
 pub(crate) fn ranks(words: &[u8], bytes: &[u8]) {
     let used = text::byte_at(bytes, 0);
     let first = text::word(
@@ -51,11 +87,12 @@ pub(crate) fn ranks(words: &[u8], bytes: &[u8]) {
         text::byte_at(bytes, 4),
     );
     let count = text::byte_at(bytes, 5);
+    let kind = text::byte_at(bytes, 6);
     text::print(words);
     text::print(b"->");
     let mut k: u8 = 0;
     while k < count {
-        stations(used, first, k);
+        stations(kind, used, first, k);
         k += 1;
     }
     text::print(b"\n");

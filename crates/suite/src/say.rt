@@ -5,6 +5,9 @@ use attempts::State;
 use attempts::Station;
 use commands::Outcome;
 use floor::Floor;
+use floor::Share;
+use register::Department;
+use register::Register;
 use register::StorageBox;
 
 fn at_most(most: u8, x: u8) -> u8
@@ -44,6 +47,27 @@ pub(crate) fn record(r: [u8; 8]) {
     );
 }
 
+// Says that a change is of canvas, where its department is.
+pub(crate) fn of_canvas(department: u8) {
+    if department != 0 {
+        text::print(b", of canvas");
+    }
+}
+
+// The end of a change by hand: the rows of canvas in use, or that it is of canvas.
+fn change_end(r: [u8; 8]) {
+    let kind = r[0];
+    match kind {
+        0xf0 => {
+            if r[4] != 0 {
+                text::fill(b", of canvas %", &[r[4] as u64]);
+            }
+        }
+        0xf1 => {}
+        _ => of_canvas(r[6]),
+    }
+}
+
 // A change by hand.
 pub(crate) fn change(r: [u8; 8]) {
     if r[0] == 0xf7 {
@@ -68,19 +92,37 @@ pub(crate) fn change(r: [u8; 8]) {
             r[5] as u64,
         ],
     );
+    change_end(r);
 }
 
-// The rows in use and the highest rank begun.
+// Whether a department has begun nothing.
+fn none(x: Share) -> bool {
+    if x.used != 0 {
+        return false;
+    }
+    x.highest == 0
+}
+
+// The rows in use and the highest rank begun, those of canvas where they are not 0.
 pub(crate) fn kept(f: Floor) {
+    let shares = f.shares;
+    let s = shares.sails;
+    let c = shares.canvas;
     text::fill(
         b"; rows in use %, highest rank begun %",
-        &[f.used as u64, f.highest as u64],
+        &[s.used as u64, s.highest as u64],
     );
+    if !none(c) {
+        text::fill(
+            b"; of canvas %, highest rank begun %",
+            &[c.used as u64, c.highest as u64],
+        );
+    }
 }
 
 // A row.
 pub(crate) fn row(f: Floor, number: u8) {
-    let w = f.rows[(number % 64) as usize];
+    let w = f.rows[(number % 128) as usize];
     let read = w.read;
     let write = w.write;
     text::fill(
@@ -106,8 +148,9 @@ pub(crate) fn refusal(k: u8) {
         |refusal % (station gone)|refusal % (station reading, writing or decided)|refusal % (revision or round)\
         |refusal % (no row unused or free)|refusal % (box stopped)|refusal % (not waiting, or not on the way)\
         |refusal % (fewer than q boxes not stopped)|refusal %|refusal %|refusal % (buffer shorter than the file)\
-        |refusal % (length of the frame)|refusal % (version of the frame)|refusal % (kind, or rank or revision 0)|refusal %",
-        at_most(22, k),
+        |refusal % (length of the frame)|refusal % (version of the frame)|refusal % (kind, or rank or revision 0)\
+        |refusal % (departments)|refusal %",
+        at_most(23, k),
         &[k as u64],
     );
 }
@@ -136,6 +179,14 @@ pub(crate) fn outcome(o: Outcome) {
     }
 }
 
+// A solo finish and its steps.
+pub(crate) fn finish(station: u8, revision: u32, steps: u8) {
+    text::fill(
+        b"solo finish of station %, revision % -> steps %, ",
+        &[station as u64, revision as u64, steps as u64],
+    );
+}
+
 fn place(state: State) -> u8 {
     match state {
         State::Idle => 0,
@@ -146,16 +197,34 @@ fn place(state: State) -> u8 {
     }
 }
 
+// The number of a department: 0 sails, 1 canvas.
+pub(crate) fn code(d: Department) -> u8 {
+    match d {
+        Department::Sails => 0,
+        Department::Canvas => 1,
+    }
+}
+
 fn station(number: u8, st: Station) {
+    let d = st.department;
     let state = st.state;
     let rank = player::last_rank(st.last, number);
     text::pick(
-        b"  station % idle, last rank %, decided revision %\n|  station % reading, last rank %, decided revision %\n\
-        |  station % writing, last rank %, decided revision %\n|  station % decided, last rank %, decided revision %\n\
-        |  station % gone, last rank %, decided revision %\n",
-        place(state),
-        &[number as u64, rank as u64, st.decided as u64],
+        b"station % |station % of canvas, ",
+        code(d),
+        &[number as u64],
     );
+    text::pick(b"idle|reading|writing|decided|gone", place(state), &[]);
+    text::fill(
+        b", last rank %, decided revision %",
+        &[rank as u64, st.decided as u64],
+    );
+}
+
+fn station_line(number: u8, st: Station) {
+    text::print(b"  ");
+    station(number, st);
+    text::print(b"\n");
 }
 
 // The stations of a floor, a line for each.
@@ -164,18 +233,63 @@ pub(crate) fn stations(f: Floor) {
     let mut j: u8 = 0;
     while j < m {
         let st = f.stations[j as usize];
-        station(j, st);
+        station_line(j, st);
         j += 1;
     }
 }
 
+// One station.
+pub(crate) fn station_at(f: Floor, number: u8) {
+    let j = number % 16;
+    let st = f.stations[j as usize];
+    station(j, st);
+}
+
+// Says a station that is of canvas.
+fn canvas_station(number: u8, st: Station) {
+    let d = st.department;
+    if code(d) == 1 {
+        text::fill(b", station % of canvas", &[number as u64]);
+    }
+}
+
+// The stations that are of canvas, among all sixteen places.
+pub(crate) fn canvas_stations(f: Floor) {
+    let mut j: u8 = 0;
+    while j < 16 {
+        let st = f.stations[j as usize];
+        canvas_station(j, st);
+        j += 1;
+    }
+}
+
+// The record of canvas in a box, where it is not all 0.
+fn canvas_record(r: Register) {
+    if r.read | r.write | r.value == 0 {
+        return;
+    }
+    text::fill(
+        b"; canvas read rank %, write rank %, value %",
+        &[r.read as u64, r.write as u64, r.value as u64],
+    );
+}
+
+// A box: the record of sails, that of canvas, and whether it has stopped.
 fn storage(number: u8, b: StorageBox) {
-    let r = b.register;
-    text::pick(
-        b"  box % read rank %, write rank %, value %\n|  box % read rank %, write rank %, value %, stopped\n",
-        b.stopped as u8,
+    let r = b.sails;
+    let c = b.canvas;
+    text::fill(
+        b"box % read rank %, write rank %, value %",
         &[number as u64, r.read as u64, r.write as u64, r.value as u64],
     );
+    canvas_record(c);
+    text::pick(b"|, stopped", b.stopped as u8, &[]);
+}
+
+fn box_line(number: u8, b: StorageBox) {
+    text::print(b"  ");
+    storage(number, b);
+    text::print(b"\n");
 }
 
 // The boxes of a floor, a line for each.
@@ -184,7 +298,14 @@ pub(crate) fn boxes(f: Floor) {
     let mut j: u8 = 0;
     while j < n {
         let b = f.boxes[j as usize];
-        storage(j, b);
+        box_line(j, b);
         j += 1;
     }
+}
+
+// One box.
+pub(crate) fn box_at(f: Floor, number: u8) {
+    let j = number % 9;
+    let b = f.boxes[j as usize];
+    storage(j, b);
 }

@@ -4,10 +4,35 @@ use crate::say;
 use crate::text;
 use crate::write;
 use floor::Floor;
+use floor::NewFloor;
 
-// The records of a file: what stands behind its label.
-fn records(file: &[u8]) -> &[u8] {
+// How many department bytes a file has: one a station in version 2, none in version 1.
+fn told(file: &[u8]) -> u8 {
+    if text::byte_at(file, 2) == 2 {
+        return text::byte_at(file, 4);
+    }
+    0
+}
+
+// What stands behind the label of a file.
+fn behind_label(file: &[u8]) -> &[u8] {
     text::from(file, text::byte_at(file, 5) as usize + 6)
+}
+
+// The records of a file: what stands behind its label and its department bytes.
+fn records(file: &[u8]) -> &[u8] {
+    text::from(behind_label(file), told(file) as usize)
+}
+
+// The step that a refusal turned back; 1 to 5 and 22 are of the file.
+fn turned_back(file: &[u8], accepted: usize, refusal: u8) {
+    match refusal {
+        6..=14 => {
+            text::print(b" of the step: ");
+            say::record(text::record(records(file), accepted));
+        }
+        _ => {}
+    }
 }
 
 // How many steps of a file were accepted, and the refusal, with the step that it turned back; and whether the file, if it is accepted,
@@ -15,20 +40,29 @@ fn records(file: &[u8]) -> &[u8] {
 fn ended(file: &[u8], accepted: usize, refusal: u8) {
     text::fill(b"accepted %, ", &[accepted as u64]);
     say::refusal(refusal);
-    if 5 < refusal {
-        text::print(b" of the step: ");
-        say::record(text::record(records(file), accepted));
-    }
+    turned_back(file, accepted, refusal);
     write::accepted(file);
     text::print(b"\n");
 }
 
-// What a file is, its label in brackets, and how it ended.
+// The department bytes that the reader hands back, if there are any.
+fn departments(file: &[u8]) {
+    let told = drill_file::departments(file);
+    if told.len() == 0 {
+        return;
+    }
+    text::print(b"departments");
+    write::hex(told);
+    text::print(b", ");
+}
+
+// What a file is, its label in brackets and its department bytes, and how it ended.
 pub(crate) fn file(words: &[u8], file: &[u8]) {
     text::print(words);
     text::print(b" -> panel [");
     text::print(drill_file::label(file));
     text::print(b"], ");
+    departments(file);
     let played = player::play(file);
     ended(file, played.accepted, played.refusal);
 }
@@ -56,19 +90,18 @@ fn alone(f: Floor, r: [u8; 8]) -> Floor {
     let revision = text::word(r[4], r[5], r[6], r[7]);
     let d = solo::solo_finish(f, r[1], revision);
     let o = d.outcome;
-    text::fill(
-        b"solo finish of station %, revision % -> steps %, ",
-        &[r[1] as u64, revision as u64, d.steps as u64],
-    );
+    say::finish(r[1], revision, d.steps);
     say::outcome(o);
     d.floor
 }
 
-// The tally of the floor's first boxes by value, and that of a lent run of as many.
-fn tallies(f: Floor, count: u8) -> Floor {
+// The department's tally of the floor's first boxes by value, and that of a lent run of as many.
+fn tallies(f: Floor, count: u8, department: u8) -> Floor {
     let boxes = f.boxes;
-    let t = tally::tally_floor(boxes, count);
-    let u = tally::tally_lent(hand::sixteen(boxes), count);
+    let d = hand::department(department);
+    let t = tally::tally_floor(boxes, count, d);
+    let u = tally::tally_lent(hand::sixteen(boxes), count, d);
+    text::pick(b"|canvas: ", say::code(d), &[]);
     text::fill(
         b"tally of the first % boxes -> not stopped %, highest write rank %; ",
         &[count as u64, t.count as u64, t.highest as u64],
@@ -134,13 +167,32 @@ fn row_rank(f: Floor, r: [u8; 8]) -> Floor {
 fn highest(f: Floor, r: [u8; 8]) -> Floor {
     let rank = text::word(r[1], r[2], r[3], r[4]);
     text::fill(b"by hand: highest rank begun %", &[rank as u64]);
-    hand::highest(f, rank)
+    say::of_canvas(r[5]);
+    hand::highest(f, hand::department(r[5]), rank)
 }
 
-// A row as it stands.
-fn row(f: Floor, number: u8) -> Floor {
-    say::row(f, number);
-    say::kept(f);
+// The row that the next begin of a department takes.
+fn next_row(f: Floor, department: u8) -> Floor {
+    let d = hand::department(department);
+    let row = floor::next_row(f, d);
+    text::pick(
+        b"the next row of sails -> %|the next row of canvas -> %",
+        say::code(d),
+        &[row as u64],
+    );
+    f
+}
+
+// A row as it stands, with what each department has begun; or a box, or a station.
+fn part(f: Floor, number: u8, what: u8) -> Floor {
+    match what {
+        1 => say::box_at(f, number),
+        2 => say::station_at(f, number),
+        _ => {
+            say::row(f, number);
+            say::kept(f);
+        }
+    }
     f
 }
 
@@ -149,11 +201,12 @@ fn by_other(f: Floor, r: [u8; 8]) -> Floor {
     let kind = r[0];
     match kind {
         0xf4 => alone(f, r),
-        0xf5 => tallies(f, r[1]),
+        0xf5 => tallies(f, r[1], r[2]),
         0xf6 => run_of_bytes(f, r[1]),
         0xfb => row_rank(f, r),
         0xfc => highest(f, r),
-        0xfd => row(f, r[1]),
+        0xfd => part(f, r[1], r[2]),
+        0xff => next_row(f, r[1]),
         _ => {
             say::change(r);
             hand::change(f, r)
@@ -183,14 +236,33 @@ fn steps(start: Floor, records: &[u8], by_hand: bool) -> Floor {
     f
 }
 
-// Says what the case is, and makes the new floor of the sizes in a file.
+// The new floor of the sizes and departments in a file.
+fn floor_of(file: &[u8]) -> NewFloor {
+    let n = text::byte_at(file, 3);
+    let m = text::byte_at(file, 4);
+    let count = told(file);
+    if count == 0 {
+        let sails = [0u8; 16];
+        return floor::new_floor(n, m, text::up_to(&sails, m as usize));
+    }
+    floor::new_floor(n, m, text::up_to(behind_label(file), count as usize))
+}
+
+// Says what the case is, and makes its new floor.
 fn started(words: &[u8], bytes: &[u8]) -> Floor {
-    let n = text::byte_at(bytes, 3);
-    let m = text::byte_at(bytes, 4);
+    let made = floor_of(bytes);
+    let f = made.floor;
     text::print(words);
-    text::fill(b"(new floor: boxes %, stations %)", &[n as u64, m as u64]);
-    let made = floor::new_floor(n, m);
-    made.floor
+    text::fill(
+        b"(new floor: boxes %, stations %",
+        &[
+            text::byte_at(bytes, 3) as u64,
+            text::byte_at(bytes, 4) as u64,
+        ],
+    );
+    say::canvas_stations(f);
+    text::print(b")");
+    f
 }
 
 // Says what came of each step of a file, also behind a refused one.
@@ -227,12 +299,17 @@ pub(crate) fn behind(words: &[u8], bytes: &[u8]) {
     text::print(b"\n");
 }
 
-// A new floor.
-pub(crate) fn new_floor(words: &[u8], sizes: &[u8]) {
-    let made = floor::new_floor(text::byte_at(sizes, 0), text::byte_at(sizes, 1));
+// A new floor: its sizes, the refusal, and the stations that are of canvas. The bytes of a case: n, m and the department bytes.
+pub(crate) fn new_floor(words: &[u8], bytes: &[u8]) {
+    let made = floor::new_floor(
+        text::byte_at(bytes, 0),
+        text::byte_at(bytes, 1),
+        text::from(bytes, 2),
+    );
     let f = made.floor;
     text::print(words);
     text::fill(b" -> boxes %, stations %, ", &[f.n as u64, f.m as u64]);
     say::refusal(made.refusal);
+    say::canvas_stations(f);
     text::print(b"\n");
 }

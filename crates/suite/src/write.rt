@@ -62,35 +62,82 @@ pub(crate) fn bytes(buffer: &[u8], end: usize) {
 }
 
 // Writes a file of these parts, and shows the buffer: the file, a stroke, and what stands behind it.
-fn shown(buffer: &mut [u8], n: u8, m: u8, label: &[u8], records: &[u8]) {
-    let written = drill_file::write_file(buffer, n, m, label, records);
+fn shown(
+    buffer: &mut [u8],
+    version: u8,
+    n: u8,
+    m: u8,
+    label: &[u8],
+    departments: &[u8],
+    records: &[u8],
+) {
+    let written = drill_file::write_file(buffer, version, n, m, label, departments, records);
     text::fill(b" -> size %, ", &[written.size as u64]);
     say::refusal(written.refusal);
     bytes(buffer, written.size);
 }
 
-// The parts of a case: the buffer's size in two bytes, n, m, the label's length and the label; then the records.
+// The buffer's size, in the first two bytes of a case.
+fn room(bytes: &[u8]) -> usize {
+    text::word(0, 0, text::byte_at(bytes, 0), text::byte_at(bytes, 1)) as usize
+}
+
+// A part with its length before it: the bytes behind the first byte, as many as that says.
+fn part(bytes: &[u8]) -> &[u8] {
+    text::from(text::up_to(bytes, text::byte_at(bytes, 0) as usize + 1), 1)
+}
+
+// What stands behind such a part.
+fn behind(bytes: &[u8]) -> &[u8] {
+    text::from(bytes, text::byte_at(bytes, 0) as usize + 1)
+}
+
+// The parts of a case of version 1: the buffer's size in two bytes, n, m, the label's length and the label; then the records.
 pub(crate) fn parts(words: &[u8], bytes: &[u8]) {
-    let mut buffer = [0xeeu8; 32816];
-    let room = text::word(0, 0, text::byte_at(bytes, 0), text::byte_at(bytes, 1)) as usize;
-    let end = 5 + text::byte_at(bytes, 4) as usize;
-    let n = text::byte_at(bytes, 2);
-    let m = text::byte_at(bytes, 3);
-    let label = text::from(text::up_to(bytes, end), 5);
+    let mut buffer = [0xeeu8; 32832];
+    let given = text::from(bytes, 4);
     text::print(words);
     shown(
-        first(&mut buffer, room),
-        n,
-        m,
-        label,
-        text::from(bytes, end),
+        first(&mut buffer, room(bytes)),
+        1,
+        text::byte_at(bytes, 2),
+        text::byte_at(bytes, 3),
+        part(given),
+        &[],
+        behind(given),
+    );
+}
+
+// The parts of a case of any version: the buffer's size in two bytes, the version, n, m, the label's length and the label, the number
+// of department bytes and these; then the records.
+pub(crate) fn composed(words: &[u8], bytes: &[u8]) {
+    let mut buffer = [0xeeu8; 32832];
+    let given = text::from(bytes, 5);
+    let departments = behind(given);
+    text::print(words);
+    shown(
+        first(&mut buffer, room(bytes)),
+        text::byte_at(bytes, 2),
+        text::byte_at(bytes, 3),
+        text::byte_at(bytes, 4),
+        part(given),
+        part(departments),
+        behind(departments),
     );
 }
 
 // Whether a file, taken apart and written into a buffer, is the same, and the bytes behind it are as they were: those of `before`.
 fn again(buffer: &mut [u8], before: &[u8], file: &[u8], n: u8, m: u8, start: usize) -> bool {
     let label = drill_file::label(file);
-    let written = drill_file::write_file(buffer, n, m, label, text::from(file, start));
+    let written = drill_file::write_file(
+        buffer,
+        text::byte_at(file, 2),
+        n,
+        m,
+        label,
+        drill_file::departments(file),
+        text::from(file, start),
+    );
     if written.size != file.len() {
         return false;
     }
@@ -109,8 +156,8 @@ pub(crate) fn accepted(file: &[u8]) {
     match header {
         Header::Refused(_) => {}
         Header::Accepted { n, m, start, .. } => {
-            let before = [0xeeu8; 32816];
-            let mut buffer = [0xeeu8; 32816];
+            let before = [0xeeu8; 32832];
+            let mut buffer = [0xeeu8; 32832];
             if again(&mut buffer, &before, file, n, m, start) {
                 text::print(b"; written again: the same");
                 return;

@@ -6,10 +6,10 @@ use Rattle.suite.proofs.notation.chain.Statement.{statement}
 use Rattle.suite.proofs.notation.chain.Tie as tie
 
 abbrev Inv-loop : tie.InvT-loop
-Inv-loop out₀ at n count end₀ k₀ out end k = (k ≤ count) × (length out ≡ length out₀)
+Inv-loop out₀ at n count row station end₀ k₀ out end k = (k ≤ count) × (length out ≡ length out₀)
 
 abbrev μ-loop : tie.MeasureT-loop
-μ-loop out₀ at n count end₀ k₀ out end k = count - k
+μ-loop out₀ at n count row station end₀ k₀ out end k = count - k
 
 pub chain-spec : {M : Type 1} → statement M
 chain-spec =

@@ -4,10 +4,10 @@ use Rattle.suite.proofs.rounds.ranks.Statement.{statement}
 use Rattle.suite.proofs.rounds.ranks.Tie as tie
 
 abbrev Inv-loop : tie.InvT-loop
-Inv-loop words bytes used first count k₀ t8 k = k ≤ count
+Inv-loop words bytes used first count kind k₀ t8 k = k ≤ count
 
 abbrev μ-loop : tie.MeasureT-loop
-μ-loop words bytes used first count k₀ t8 k = count - k
+μ-loop words bytes used first count kind k₀ t8 k = count - k
 
 pub ranks-spec : {M : Type 1} → statement M
 ranks-spec =
@@ -15,6 +15,7 @@ ranks-spec =
     (tie.spec
     Inv-loop
     μ-loop
+    (λ c κs. search needs)
     (λ c κs. search needs)
     (λ c κs. search needs)
     (λ c κs. search needs)
