@@ -9,12 +9,12 @@ use mathlib.Core.List.{List}
 use lib.ListN.{length, getD, set, length-set, List·getD-eq-default}
 use lib.Seq.{getD-set-same, getD-set-other}
 use Rattle.base.specs.Choice.{if_then_else_}
-use Rattle.register.specs.Register.{box0, registerOf, boxWith}
+use Rattle.register.specs.Register.{box0, registerOf}
 use Rattle.register.specs.declared.Department.{Department}
 use Rattle.register.specs.declared.Department.the-variants.{Sails, Canvas}
 use Rattle.register.specs.declared.Register.{Register}
 use Rattle.register.specs.declared.StorageBox.{StorageBox}
-use Rattle.register.proofs.DepartmentLaws.{is-same, box-own}
+use Rattle.register.proofs.DepartmentLaws.{box-own}
 use Rattle.requests.specs.Requests.{ofPhase}
 use Rattle.requests.specs.declared.Phase.{Phase}
 use Rattle.requests.specs.declared.Phase.the-variants.{Read, Write}
@@ -28,16 +28,17 @@ use Rattle.attempts.specs.Stations.{station0, withState}
 use Rattle.attempts.specs.Rows.{row0, rowDepartment, firstRow, newRow, usedAfter, issued, revisionOf, rowHeard}
 use Rattle.attempts.specs.declared.State.the-variants as state
 use Rattle.attempts.specs.declared.State.{State}
+use Rattle.attempts.specs.declared.Decision.the-variants.{Revision}
 use Rattle.attempts.specs.declared.Station.{Station}
 use Rattle.attempts.specs.declared.Row.{Row}
 use Rattle.attempts.proofs.RowDepartments.{row-own}
-use Rattle.floor.specs.Floors.{boxAt, stationAt, rowAt, ownerAt, registerAt, departmentAt, shareOf, usedOf, highestOf, InUse, withShare, withBox, withRegister, withStation, withRow}
+use Rattle.floor.specs.Floors.{boxAt, stationAt, rowAt, ownerAt, departmentAt, shareOf, usedOf, highestOf, InUse, withShare, withBox, withRegister, withStation, withRow}
 use Rattle.floor.specs.Free.{allServed, freeIn, betterIn, freeBelow, nextRow}
 use Rattle.floor.specs.Effects.{stepped, rowTaken, beginner, heardRow, decider, afterAbort, readEndedOn, writeEndedOn, verdictOn, heardOn, receivedOn, deliveredOn, effectOn}
 use Rattle.floor.specs.Effects as effects
 use Rattle.floor.specs.Step.{applyOf}
-use Rattle.floor.specs.Claims.{Sound, CanBegin, CanServe, CanDeliver, CanStop, CanLeave}
-use Rattle.floor.specs.Departments.{belongs, SameFor, Owned}
+use Rattle.floor.specs.Claims.{Sound, CanBegin, CanServe, CanDeliver}
+use Rattle.floor.specs.Departments.{SameFor, Owned}
 use Rattle.floor.specs.declared.Share.{Share}
 use Rattle.floor.specs.declared.Floor.{Floor}
 use Rattle.floor.specs.declared.Stepped.{Stepped}
@@ -244,7 +245,7 @@ module _ {d : Department} {f g : Floor} (k : Alike d f g) (o : Owned f) where
     decided-alike : AlikeStep d (writeEndedOn f a w) (writeEndedOn g a (heardRow g p a b))
     decided-alike =
         subst (λ (x : Row). AlikeStep d (writeEndedOn f a w) (writeEndedOn g a x)) (sym heard-same)
-        (subst (λ (x : Station). AlikeStep d (writeEndedOn f a w) (stepped (withStation (withRow g a w) (w .station) (record { department = x .department; state = state.Decided a; last = x .last; decided = w .written })) (said.Decided (w .written)))) (sym station-alike)
+        (subst (λ (x : Station). AlikeStep d (writeEndedOn f a w) (stepped (withStation (withRow g a w) (w .station) (record { department = x .department; state = state.Decided a; last = x .last; decided = Revision (w .written) })) (said.Decided (w .written)))) (sym station-alike)
         (record { outcome = refl; floor = alike-station (alike-row k a w) (w .station) (decider f a w) }))
 
     aborted-alike : AlikeStep d (stepped (afterAbort f a w) (said.Aborted a)) (stepped (afterAbort g a (heardRow g p a b)) (said.Aborted a))
@@ -276,14 +277,13 @@ module _ {d : Department} {f g : Floor} (k : Alike d f g) (o : Owned f) where
   taken-alike s e = ap (nextRow g) (k .same .departments s ∙ e) ∙ next-alike k o ∙ ap (nextRow f) (sym e)
 
   -- the tests
-  can-begin : (s round v : ℕ) → departmentAt f s ≡ d → CanBegin f s round v → CanBegin g s round v
-  can-begin s round v e c =
+  can-begin : (s round : ℕ) → departmentAt f s ≡ d → CanBegin f s round → CanBegin g s round
+  can-begin s round e c =
       let q = k .same .stations s e in
       record {
         station = omega (arith, c .station, k .stations);
         here = rw q (c .here);
         free = rw q (c .free);
-        offer = c .offer;
         later = rw q (c .later);
         row = subst (λ (x : ℕ). x < 128) (sym (taken-alike s e)) (c .row);
       }
@@ -334,8 +334,8 @@ module _ {d : Department} {f g : Floor} (k : Alike d f g) (o : Owned f) where
   -- an accepted step of the department, or a box stop
   effect-alike : (c : Command) → KeptFor f d c → refusalOn f c ≡ 0 → (refusalOn g c ≡ 0) × AlikeStep d (effectOn f c) (effectOn g c)
   effect-alike (Begin s round v) e h =
-      let c = begin-means f s round v h in
-      (begin-holds g s round v (can-begin s round v e c), begin-alike s round v e)
+      let c = begin-means f s round h in
+      (begin-holds g s round (can-begin s round e c), begin-alike s round v e)
   effect-alike (Serve p a b) e h =
       let c = serve-means f p a b h in (
         serve-holds g p a b (can-serve p a b e c),

@@ -58,12 +58,11 @@ count-answering boxes (suc k) b set h =
     at-most false = omega arith
 
 -- the words of the list, on the floor before the step at i
-module _ (f : Floor) (l : List (List ℕ)) (new : New f) (z : Sound f) (s v i : ℕ) where
-  pub ready : s < f .m → IdleAt f l s i → Majority (f .n) (Answering f l i) → RowLeft f l (departmentAt f s) i → RoundLeft f l (departmentAt f s) s i → 0 < v → Ready (floorAt f l i) s v
-  ready place idle boxes row round offer = record {
+module _ (f : Floor) (l : List (List ℕ)) (new : New f) (z : Sound f) (s i : ℕ) where
+  pub ready : s < f .m → IdleAt f l s i → Majority (f .n) (Answering f l i) → RowLeft f l (departmentAt f s) i → RoundLeft f l (departmentAt f s) s i → Ready (floorAt f l i) s
+  ready place idle boxes row round = record {
     station = omega (arith, stations-at f l new i);
     idle = idle-state f l new s i idle;
-    offer = offer;
     round = omega (
       arith,
       round-smallest (floorAt f l i) s .least (round .round) (round .least)

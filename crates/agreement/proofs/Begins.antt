@@ -3,17 +3,17 @@ use Prim.Native.Nat.{ℕ, _/_, _%_, _≤_, _<_}
 use native.Mathlib.Nat.{le-refl, le-trans}
 use native.Mathlib.Omega.{arith}
 use mathlib.Core.Path.{_≡_, refl, sym, ap, subst, _∙_}
-use mathlib.Core.Bool.{true}
+use mathlib.Core.Bool.{true, false}
 use mathlib.Core.List.{List, _∷_, List·Memᴰ·head}
 use lib.ListN.{getD, set}
 use Rattle.base.specs.Numbers.{rankOf}
 use Rattle.protocol.specs.Trace.{took, note, Edit, there, other, other-event}
 use Rattle.base.proofs.MaskLaws.{bit-zero}
-use Rattle.requests.specs.Requests.{slot0}
+use Rattle.requests.specs.Requests.{slot0, noneIssued}
 use Rattle.requests.specs.declared.Slot.{Slot}
 use Rattle.attempts.specs.Stations.{station0, isActive}
 use Rattle.register.specs.declared.Department.{Department}
-use Rattle.attempts.specs.Rows.{row0, answer0, newRow}
+use Rattle.attempts.specs.Rows.{row0, newRow}
 use Rattle.floor.proofs.UseLaws.{use-of}
 use Rattle.floor.proofs.FreeLaws.{next-own, next-over}
 use Rattle.floor.specs.Floors.{stationAt, rowAt, departmentAt}
@@ -26,10 +26,10 @@ use Rattle.floor.specs.Effects.{rowTaken, beginner, afterBegin}
 use Rattle.floor.proofs.Keeps.{row-stored, station-stored, begun-use, use-begun, taken-use}
 use Rattle.base.proofs.Stores.{set-all, set-in, getD-same}
 use Rattle.agreement.proofs.Edits.{edit-set}
-use Rattle.agreement.proofs.History.{UsedBy, offered, Happening, History, Unwritten, unwritten-more, isAnswered, isIssued, waiting-unanswered, RowShows, station-kept-by, stations-stored, Shows, row-more}
+use Rattle.agreement.proofs.History.{UsedBy, offered, Happening, History, Unwritten, unwritten-more, isAnswered, isIssued, isWritten, waiting-unanswered, RowShows, station-kept-by, stations-stored, Shows, row-more}
 use Rattle.agreement.proofs.Serves.{StepTo}
 
-module _ {f : Floor} {l : History} (t round v : ℕ) (s : Shows (departmentAt f t) f l) (y : Lengths f) (z : Sound f) (d : CanBegin f t round v) where
+module _ {f : Floor} {l : History} (t round v : ℕ) (s : Shows (departmentAt f t) f l) (y : Lengths f) (z : Sound f) (d : CanBegin f t round) where
   abbrev own : Department
   own = departmentAt f t
 
@@ -67,23 +67,24 @@ module _ {f : Floor} {l : History} (t round v : ℕ) (s : Shows (departmentAt f 
   unused : (k : ℕ) → UsedBy own f k → ¬ (rowAt f k .rank ≡ rank)
   unused k h q = omega (arith, s .begun k h, subst (λ (r : ℕ). stationAt f (r % 16) .last < r / 16) (sym q) unbegun)
 
+  unissued : isWritten noneIssued ≡ false
+  unissued = ap (λ (x : Slot). isIssued (x .stage)) (getD-same 9 0 slot0)
+
   new-row : RowShows row (event ∷ l)
   unfolding newRow
   new-row = record {
     positive = omega (arith, d .later);
     place = here;
-    revision = d .offer;
     offer = List·Memᴰ·head refl;
     reads = record {
       received = λ b m. clash m (bit-zero b);
       answered = λ b h. clash h (waiting-unanswered (f .n) b);
       told = λ b h. clash h (waiting-unanswered (f .n) b);
-      paired = λ b. rw (getD-same 9 b answer0) (λ e. refl, λ h. h);
     };
     writes = record {
       received = λ b m. clash m (bit-zero b);
       after-issue = λ b h. clash h (ap (λ (x : Slot). isIssued (x .stage)) (getD-same 9 b slot0));
-      issue = λ h. absurd (omega arith);
+      issue = λ h. clash h unissued;
       unwritten = λ _. unwritten;
       taken = λ b h. clash h (ap (λ (x : Slot). isAnswered (x .stage)) (getD-same 9 b slot0));
       refusal = λ b h. clash h (ap (λ (x : Slot). isAnswered (x .stage)) (getD-same 9 b slot0));
@@ -135,7 +136,6 @@ module _ {f : Floor} {l : History} (t round v : ℕ) (s : Shows (departmentAt f 
   begin-step = record {
     step = other-event (λ j. refl);
     shows = record {
-      paired = s .paired;
       rows = set-in row0 (λ (k : ℕ) (x : Row). UsedBy own begun k → RowShows x (event ∷ l)) (f .rows) next row (omega (arith, y .rows, d .row))
           (λ k p h. row-more event (λ q. omega arith) (s .rows k (before k h p))) (λ h. new-row);
       distinct = distinct;
@@ -147,7 +147,7 @@ module _ {f : Floor} {l : History} (t round v : ℕ) (s : Shows (departmentAt f 
       stations = stations-stored own (UsedBy own begun) rows (f .stations) t (beginner f t round) (omega (arith, y .stations, d .station, z .station-most))
           (λ j p q. station-kept-by (UsedBy own f) (UsedBy own begun) (f .rows) next row j (stationAt f j .decided) (λ i h. (h .0, use-begun f t round v i (h .1)))
           (stationAt f j .state) (not-in j) (s .stations j q))
-          (λ _. ((next-own f own (d .row), taken-use f t round v (d .row)), ap (λ (w : Row). w .station) stored, ap (λ (w : Row). w .written) stored));
+          (λ _. ((next-own f own (d .row), taken-use f t round v (d .row)), ap (λ (w : Row). w .station) stored, ap (λ (w : Row). isWritten (w .write)) stored ∙ unissued));
     };
   }
     where

@@ -34,7 +34,6 @@ use Rattle.requests.specs.Requests.{slot0, slotAt, ofPhase}
 use Rattle.requests.specs.declared.Phase.{Phase}
 use Rattle.requests.specs.declared.Phase.the-variants.{Read, Write}
 use Rattle.requests.specs.declared.Slot.{Slot}
-use Rattle.requests.proofs.Standings.{waits-means}
 use Rattle.commands.specs.Outcomes.{isRefused}
 use Rattle.commands.specs.declared.Command.{Command}
 use Rattle.commands.specs.declared.Command.the-variants.{Serve}
@@ -47,20 +46,19 @@ use Rattle.floor.specs.Effects.{servedBy}
 use Rattle.floor.proofs.UseLaws.{in-use-most}
 use Rattle.floor.specs.Step.{stepOf}
 use Rattle.floor.specs.Runs.{floorAt, saidAt}
-use Rattle.floor.specs.Claims.{Sound, CanServe, ServedBy}
+use Rattle.floor.specs.Claims.{Sound, ServedBy}
 use Rattle.floor.specs.declared.Floor.{Floor}
 use Rattle.floor.specs.declared.Stepped.{Stepped}
 use Rattle.floor.proofs.StepCases.{StepCase, turned, served, step-case}
 use Rattle.floor.proofs.Keeps.{new-sound}
+use Rattle.floor.proofs.ListLaws.{sound-at}
 use Rattle.base.proofs.Cases.{clash}
 use Rattle.agreement.specs.Words.{commandAt}
 use Rattle.agreement.specs.Demand.{firstFloor}
 use Rattle.agreement.specs.Chain.{bytesAt, answerAt, InC, requestAt, answeredAt, FramedInC, ServedInC, Chain}
-use Rattle.agreement.proofs.History.{isIssued}
 use Rattle.agreement.proofs.Reach.{New, new-floor}
 use Rattle.agreement.proofs.Positions.{reached-at, lengths-at, means-at}
 use Rattle.agreement.proofs.Safety.{served-at}
-use Rattle.agreement.proofs.Standing.{sound-at}
 use Rattle.agreement.proofs.Widths.{FloorFits, fits-at, new-fits}
 
 -- a call on the 12 bytes of a register does what the routine by value does to it
@@ -95,7 +93,7 @@ module _ (x : Register) (r : ℕ) (n : ¬ (r ≡ 0)) where
         sym (read-reply (encode x) r p (encode-length x) h n)
         ∙ ap (λ (y : ReadDone). replyOf (rankIn (y .answer)) (valueIn (y .answer))) same-read
 
-  module _ (v : ℕ) (m : ¬ (v ≡ 0)) where
+  module _ (v : ℕ) where
     abbrev done : WriteDone
     done = rmwWrite x r v
 
@@ -108,13 +106,13 @@ module _ (x : Register) (r : ℕ) (n : ¬ (r ≡ 0)) where
 
     called : (t : Bool) → done .taken ≡ t → Called
     called true t =
-        let e = write-0 (encode x) r v (encode-length x) n m (ap (λ (y : WriteDone). y .taken) same ∙ t) in
+        let e = write-0 (encode x) r v (encode-length x) n (ap (λ (y : WriteDone). y .taken) same ∙ t) in
         record {
           returns = sym e ∙ on-true _ t refl;
           changes = sym (write-record (encode x) r v e) ∙ ap (λ (y : WriteDone). encode (y .register)) same;
         }
     called false t =
-        let e = write-100 (encode x) r v (encode-length x) n m (ap (λ (y : WriteDone). y .taken) same ∙ t) in
+        let e = write-100 (encode x) r v (encode-length x) n (ap (λ (y : WriteDone). y .taken) same ∙ t) in
         record {
           returns = sym e ∙ on-false _ t refl;
           changes = sym (write-kept (encode x) r v 100 refl e) ∙ ap (λ (y : WriteDone). encode (y .register)) (sym (write-refused x r v (sym (write-answers x r v) ∙ t)));
@@ -139,10 +137,10 @@ module _ (x : Register) (r : ℕ) (n : ¬ (r ≡ 0)) (behind buffer : List ℕ) 
       let a = rw (decode-encode x) at (serves-read (encode x) input r e buffer none) in
       record { returns = none; changes = a .leaves; answers = a .frame }
 
-  write-framed : (v : ℕ) → ¬ (v ≡ 0) → Framed x (WriteRequest r v) (rmwWrite x r v .register) (answerToWrite (rmwWrite x r v)) behind buffer
-  write-framed v m =
+  write-framed : (v : ℕ) → Framed x (WriteRequest r v) (rmwWrite x r v .register) (answerToWrite (rmwWrite x r v)) behind buffer
+  write-framed v =
       let input = frameOf (WriteRequest r v) ++ behind in
-      let e = frame-back (WriteRequest r v) behind (sym (on-false _ (ne-eqb r 0 n) (sym (ne-eqb v 0 m)))) .message in
+      let e = frame-back (WriteRequest r v) behind (ne-eqb r 0 n) .message in
       let none = says-write-room (encode x) input r v e (length buffer) (encode-length x) ∙ sym (on-false _ (room (answerToWrite (rmwWrite (decode (encode x)) r v)) (length buffer) h) refl) in
       let a = rw (decode-encode x) at (serves-write (encode x) input r v e buffer none) in
       record { returns = none; changes = a .leaves; answers = a .frame }
@@ -172,10 +170,10 @@ module _ (f : Floor) (l : List (List ℕ)) (new : New f) (z : Sound f) (a i : �
   rank-positive q = omega (arith, reached-at f l new (rowDepartment a) i .shows .rows a (refl, x .may .used) .positive, q)
 
   place : b < 9
-  place = omega (arith, x .may .box, sound-at f l new z i .box-most)
+  place = omega (arith, x .may .box, sound-at f l z i .box-most)
 
   row-place : a < 128
-  row-place = in-use-most g (sound-at f l new z i) a (x .may .used)
+  row-place = in-use-most g (sound-at f l z i) a (x .may .used)
 
   -- the box's next record for the attempt's department
   stored : registerAt (floorAt f l (suc i)) (rowDepartment a) b ≡ registerServed (x .phase) w held
@@ -196,7 +194,7 @@ module _ (f : Floor) (l : List (List ℕ)) (new : New f) (z : Sound f) (a i : �
         ap (λ (v : Row). slotAt (v .read) b .ok) (x .row) ∙ ap (λ (p : Phase). slotAt (rowServed p w held b .read) b .ok) q
         ∙ ap (λ (v : Slot). v .ok) (getD-set-same (w .read .slots) b _ slot0 (omega (arith, place, lengths-at f l new i .slots Read a row-place)))
 
-  -- the same of a write, whose revision is not 0
+  -- the same of a write
   module _ (q : x .phase ≡ Write) where
     write-register : registerAt (floorAt f l (suc i)) (rowDepartment a) b ≡ rmwWrite held (w .rank) (w .written) .register
     write-register = stored ∙ ap (λ (p : Phase). registerServed p w held) q
@@ -205,12 +203,6 @@ module _ (f : Floor) (l : List (List ℕ)) (new : New f) (z : Sound f) (a i : �
     write-ok =
         ap (λ (v : Row). slotAt (v .write) b .ok) (x .row) ∙ ap (λ (p : Phase). slotAt (rowServed p w held b .write) b .ok) q
         ∙ ap (λ (v : Slot). v .ok) (getD-set-same (w .write .slots) b _ slot0 (omega (arith, place, lengths-at f l new i .slots Write a row-place)))
-
-    written-positive : ¬ (w .written ≡ 0)
-    written-positive u =
-        let waits = subst (λ (p : Phase). CanServe g p a b) q (x .may) .waits in
-        let issued = reached-at f l new (rowDepartment a) i .shows .rows a (refl, x .may .used) .writes .after-issue b (ap isIssued (waits-means (slotAt (w .write) b .stage) (w .write .heard) b waits .0)) in
-        omega (arith, issued, u)
 
   call : (p : Phase) → x .phase ≡ p → InC f l p (w .rank) a b i
   call Read q = λ reply h.
@@ -221,7 +213,7 @@ module _ (f : Floor) (l : List (List ℕ)) (new : New f) (z : Sound f) (a i : �
         answers = read-answers held (w .rank) rank-positive reply h ∙ ap (λ (v : Answer). replyOf (v .rank) (v .value)) (sym (read-answer q));
       }
   call Write q =
-      let c = called held (w .rank) rank-positive (w .written) (written-positive q) _ refl in
+      let c = called held (w .rank) rank-positive (w .written) _ refl in
       record {
         returns = c .returns ∙ ap (λ (t : Bool). if t then 0 else 100) (sym (write-ok q));
         changes = c .changes ∙ ap encode (sym (write-register q));
@@ -238,7 +230,7 @@ module _ (f : Floor) (l : List (List ℕ)) (new : New f) (z : Sound f) (a i : �
       let c = read-framed held (w .rank) rank-positive behind buffer h in
       rw (said-answer Read q) (record { returns = c .returns; changes = c .changes ∙ ap encode (sym (read-register q)); answers = c .answers })
   framed Write q behind buffer h =
-      let c = write-framed held (w .rank) rank-positive behind buffer h (w .written) (written-positive q) in
+      let c = write-framed held (w .rank) rank-positive behind buffer h (w .written) in
       rw (said-answer Write q) (record { returns = c .returns; changes = c .changes ∙ ap encode (sym (write-register q)); answers = c .answers })
 
   bytes : FloorFits f → (k : ℕ) → AllRecords l → Bytes (bytesAt f l a b k)

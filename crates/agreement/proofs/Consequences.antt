@@ -20,6 +20,7 @@ use Rattle.commands.specs.Commands.{commandOf}
 use Rattle.floor.specs.Refusals.{beginRefusal}
 use Rattle.commands.specs.Outcomes.{isRefused}
 use Rattle.floor.specs.Step.{applyOf, stepOf}
+use Rattle.attempts.specs.declared.Decision.the-variants.{Revision}
 use Rattle.attempts.specs.declared.State.{State}
 use Rattle.attempts.specs.declared.State.the-variants.{Idle, Reading, Writing, Decided, Gone}
 use Rattle.attempts.specs.declared.Station.{Station}
@@ -35,6 +36,7 @@ use Rattle.floor.proofs.StepLaws.{apply-refused}
 use Rattle.floor.proofs.StepCases.{StepCase, turned, step-case}
 use Rattle.floor.proofs.Keeps.{new-sound}
 use Rattle.floor.proofs.Moves.{apply-station}
+use Rattle.floor.proofs.ListLaws.{sound-at}
 use Rattle.agreement.specs.Words.{commandAt, attemptDepartment, DecidesAt, DecidedIn, shownAt}
 use Rattle.floor.specs.Runs.{floorAt, saidAt}
 use Rattle.agreement.specs.Demand.{firstFloor}
@@ -42,7 +44,7 @@ use Rattle.agreement.specs.Consequences.{Consequences}
 use Rattle.agreement.proofs.Reach.{New, new-floor}
 use Rattle.agreement.proofs.Positions.{means-at}
 use Rattle.agreement.proofs.Safety.{agreement, decided-in, decision-of, decider-at, shown-decided, shown-still}
-use Rattle.agreement.proofs.Standing.{own-department, stations-at, sound-at}
+use Rattle.agreement.proofs.Standing.{own-department, stations-at}
 
 -- a record with no bytes is malformed
 no-bytes : commandOf [] ≡ Malformed
@@ -57,7 +59,7 @@ module _ (f : Floor) (z : Sound f) (s round v : ℕ) (h : s < f .m) where
   abbrev c : Command
   c = Begin s round v
 
-  begin-refused : (k : ℕ) → 0 < k → beginRefusal f s round v ≡ k → applyOf f c .outcome ≡ said.Refused k
+  begin-refused : (k : ℕ) → 0 < k → beginRefusal f s round ≡ k → applyOf f c .outcome ≡ said.Refused k
   begin-refused k p q = ap (λ (x : Stepped). x .outcome) (apply-refused f c z (λ e. omega arith)) ∙ ap said.Refused q
 
   begin-gone : isGone (stationAt f s .state) ≡ true → applyOf f c .outcome ≡ said.Refused 9
@@ -110,7 +112,7 @@ module _ (f : Floor) (l : List (List ℕ)) (new : New f) where
 
   -- the station of a decision is one of the floor's
   station-below : Sound f → (s v k : ℕ) → DecidesAt f l s v k → s < f .m
-  station-below z s v k d = let o = decider-at f l new s v k d in omega (arith, sound-at f l new z k .stations (o .row) (o .used), o .owner, stations-at f l new k)
+  station-below z s v k d = let o = decider-at f l new s v k d in omega (arith, sound-at f l z k .stations (o .row) (o .used), o .owner, stations-at f l new k)
 
   -- after its decision a station is over
   pub over-since : (s v k i : ℕ) → DecidesAt f l s v k → k < i → isOver (stationAt (floorAt f l i) s .state) ≡ true
@@ -136,15 +138,18 @@ module _ (f : Floor) (l : List (List ℕ)) (new : New f) where
       let e = own-department f l new (x .attempt) ∙ ap (departmentAt f) (x .station ∙ sym (d .station)) ∙ sym (own-department f l new (d .attempt)) in
       subst (λ (y : Department). DecidedIn f l y u i) e (decided-in f l new s u i x)
 
-  stays : (s v k i : ℕ) → DecidesAt f l s v k → k < i → shownAt f l s i ≡ v
-  stays s v k i d h = let x = shown-decided f l new s i (shown-still f l new s v k i d h) in agreement f l new (attemptDepartment f l (d .attempt)) (x .at) k _ v (same-department s _ v (x .at) k (x .holds) d) (decided-in f l new s v k d)
+  stays : (s v k i : ℕ) → DecidesAt f l s v k → k < i → shownAt f l s i ≡ Revision v
+  stays s v k i d h =
+      let y = shown-still f l new s v k i d h in
+      let x = shown-decided f l new s i (y .0) (y .1) in
+      y .1 ∙ ap Revision (agreement f l new (attemptDepartment f l (d .attempt)) (x .at) k (y .0) v (same-department s (y .0) v (x .at) k (x .holds) d) (decided-in f l new s v k d))
 
   over : Sound f → (s v k i round u : ℕ) → DecidesAt f l s v k → k < i → commandAt l i ≡ Begin s round u
       → (saidAt f l i ≡ said.Refused 9) ⊎ (saidAt f l i ≡ said.Refused 10)
   unfolding stepOf
   over z s v k i round u d h e =
       subst (λ (c : Command). (applyOf (floorAt f l i) c .outcome ≡ said.Refused 9) ⊎ (applyOf (floorAt f l i) c .outcome ≡ said.Refused 10)) (sym e)
-      (begin-over (floorAt f l i) (sound-at f l new z i) s round u (omega (arith, station-below z s v k d, stations-at f l new i)) _ refl (over-since s v k i d h))
+      (begin-over (floorAt f l i) (sound-at f l z i) s round u (omega (arith, station-below z s v k d, stations-at f l new i)) _ refl (over-since s v k i d h))
 
 pub consequences : (n m : ℕ) (departments : List ℕ) (l : List (List ℕ)) → Consequences (firstFloor n m departments) l
 consequences n m t l = let f = firstFloor n m t in let new = new-floor n m t in let z = new-sound n m t in record {

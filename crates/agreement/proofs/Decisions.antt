@@ -61,7 +61,7 @@ module _ {f : Floor} {l : History} (a b : ℕ) (s : Shows (rowDepartment a) f l)
   decision-step r = record {
     step = other-event (λ j. refl);
     shows = row-moved a s o y z (d .used) (heardRow f Write a b) refl (decider f a (heardRow f Write a b)) (refl, refl) (note quiet) (λ k e. absurd (omega arith))
-        (row-more (note quiet) (λ e. omega arith) (shown a b s o d)) (owner-writes a s o (d .used) r);
+        (row-more (note quiet) (λ e. omega arith) (shown a b s o d)) (rowAt f a .written, refl);
   }
 
 pub abort-step : {f : Floor} {l : History} (p : Phase) (a b : ℕ) → Shows (rowDepartment a) f l → Owned f → Lengths f → Sound f → CanDeliver f p a b

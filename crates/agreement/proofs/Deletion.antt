@@ -33,12 +33,13 @@ use Rattle.floor.proofs.Keeps.{new-sound, step-sizes}
 use Rattle.floor.proofs.Moves.{apply-box}
 use Rattle.floor.proofs.Numbered.{accepted-refusal}
 use Rattle.floor.proofs.DepartmentLaws.{apply-untouched}
+use Rattle.floor.proofs.ListLaws.{sound-at}
 use Rattle.agreement.specs.Words.{commandAt}
 use Rattle.agreement.specs.Demand.{firstFloor}
 use Rattle.agreement.specs.Deletion.{keeps, keptOf, placeOf, Deletion, DeletionTheorem}
 use Rattle.agreement.proofs.Reach.{New, new-floor}
 use Rattle.agreement.proofs.Positions.{lengths-at, owned-at}
-use Rattle.agreement.proofs.Standing.{department-at, sound-at}
+use Rattle.agreement.proofs.Standing.{department-at}
 use Rattle.agreement.proofs.Alike.{Alike, KeptFor, AlikeStep, step-alike}
 
 -- a step that is kept belongs to the department or stops a box; any other changes nothing of the department
@@ -165,8 +166,8 @@ module _ (f : Floor) (d : Department) (l : List (List ℕ)) (new : New f) (z : S
   both i h e k =
       let c = commandAt l i in
       let q : commandAt kept (place i) ≡ c = ap commandOf (at-place f d l i h e) in
-      rw q (step-alike k (owned-at f l new i) (sound-at f l new z i) (sound-at f kept new z (place i)) c (kept-for (here i) d c (keeps-at i ∙ e))
-      (accepted-refusal (here i) c (sound-at f l new z i) (accepted i h)))
+      rw q (step-alike k (owned-at f l new i) (sound-at f l z i) (sound-at f kept z (place i)) c (kept-for (here i) d c (keeps-at i ∙ e))
+      (accepted-refusal (here i) c (sound-at f l z i) (accepted i h)))
 
   alike : (i : ℕ) → i ≤ length l → Alike d (here i) (there i)
   unfolding floorAt count stepOf

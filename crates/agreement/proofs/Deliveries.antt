@@ -2,7 +2,7 @@
 use Prim.Native.Nat.{ℕ, suc, _<_}
 use native.Mathlib.Omega.{arith}
 use mathlib.Core.Path.{_≡_, refl, sym, ap, subst}
-use mathlib.Core.Bool.{true}
+use mathlib.Core.Bool.{true, false}
 use mathlib.Core.List.{_∷_}
 use lib.ListN.{set}
 use Rattle.protocol.specs.View.{View}
@@ -26,7 +26,7 @@ use Rattle.floor.specs.declared.Floor.{Floor}
 use Rattle.attempts.proofs.StationTests.{is-reading, is-writing}
 use Rattle.requests.proofs.Standings.{arrives-means}
 use Rattle.floor.specs.Effects.{heardRow}
-use Rattle.agreement.proofs.History.{UsedBy, SameStation, station-same, quiet, Happening, History, Offered, registersOf, writerOf, isAnswered, RowShows, StationShows, station-kept-by, stations-stored, Shows, row-more, shows-stored}
+use Rattle.agreement.proofs.History.{UsedBy, SameStation, station-same, quiet, Happening, History, Offered, registersOf, writerOf, isAnswered, isWritten, heard-written, RowShows, StationShows, station-kept-by, stations-stored, Shows, row-more, shows-stored}
 use Rattle.agreement.proofs.Serves.{StepTo, stations-kept}
 
 -- what has happened, as the theory sees it
@@ -38,20 +38,17 @@ heard-row : {w : Row} {l : History} → RowShows w l → (p : Phase) (b : ℕ) �
 heard-row {w} r Read b h = record {
   positive = r .positive;
   place = r .place;
-  revision = r .revision;
   offer = r .offer;
   reads = record {
     received = added (λ j. isAnswered (slotAt (w .read) j .stage) ≡ true) (w .read .heard) b (r .reads .received) h;
     answered = r .reads .answered;
     told = r .reads .told;
-    paired = r .reads .paired;
   };
   writes = r .writes;
 }
 heard-row {w} r Write b h = record {
   positive = r .positive;
   place = r .place;
-  revision = r .revision;
   offer = r .offer;
   reads = r .reads;
   writes = record {
@@ -77,10 +74,10 @@ module _ {f : Floor} {l : History} (a : ℕ) (s : Shows (rowDepartment a) f l) (
   owner-shows : (p : State) → ownerAt f a .state ≡ p → StationShows (UsedBy (rowDepartment a) f) (f .rows) (rowAt f a .station) (ownerAt f a .decided) p
   owner-shows p e = subst (StationShows (UsedBy (rowDepartment a) f) (f .rows) (rowAt f a .station) (ownerAt f a .decided)) e (s .stations (rowAt f a .station) (o a ha))
 
-  pub owner-reads : isReading (ownerAt f a .state) a ≡ true → rowAt f a .written ≡ 0
+  pub owner-reads : isReading (ownerAt f a .state) a ≡ true → isWritten (rowAt f a .write) ≡ false
   owner-reads e = owner-shows (Reading a) (is-reading (ownerAt f a .state) a e) .2
 
-  pub owner-writes : isWriting (ownerAt f a .state) a ≡ true → 0 < rowAt f a .written
+  pub owner-writes : isWriting (ownerAt f a .state) a ≡ true → isWritten (rowAt f a .write) ≡ true
   owner-writes e = owner-shows (Writing a) (is-writing (ownerAt f a .state) a e) .2
 
 module _ {f : Floor} {l : History} (a : ℕ) (s : Shows (rowDepartment a) f l) (o : Owned f) (y : Lengths f) (z : Sound f) (ha : InUse f a) where
@@ -91,10 +88,10 @@ module _ {f : Floor} {l : History} (a : ℕ) (s : Shows (rowDepartment a) f l) (
   Used = UsedBy own f
 
   -- row a becomes w, which shows the same history, and nothing is noted
-  row-heard : (w : Row) → w .rank ≡ rowAt f a .rank → w .station ≡ rowAt f a .station → w .written ≡ rowAt f a .written → RowShows w l → StepTo own f l (withRow f a w) (note quiet)
+  row-heard : (w : Row) → w .rank ≡ rowAt f a .rank → w .station ≡ rowAt f a .station → isWritten (w .write) ≡ isWritten (rowAt f a .write) → RowShows w l → StepTo own f l (withRow f a w) (note quiet)
   row-heard w p q v r = record {
     step = other-event (λ j. refl);
-    shows = shows-stored s (note quiet) (f .boxes) (f .stations) (s .paired) (λ j. (refl, refl))
+    shows = shows-stored s (note quiet) (f .boxes) (f .stations) (λ j. (refl, refl))
         y a (refl, ha) (in-use-most f z a ha) w p (λ k e. absurd (omega arith)) (row-more (note quiet) (λ e. omega arith) r) (stations-kept s a w q v);
   }
 
@@ -104,7 +101,7 @@ module _ {f : Floor} {l : History} (a : ℕ) (s : Shows (rowDepartment a) f l) (
         → StationShows Used (set (f .rows) a w) (rowAt f a .station) (t .decided) (t .state)
         → Shows own (withStation (withRow f a w) (rowAt f a .station) t) (e ∷ l)
     row-moved e wrote r seat =
-        shows-stored s e (f .boxes) _ (s .paired) (station-same (f .stations) (rowAt f a .station) t same) y a (refl, ha) (in-use-most f z a ha) w rank wrote r
+        shows-stored s e (f .boxes) _ (station-same (f .stations) (rowAt f a .station) t same) y a (refl, ha) (in-use-most f z a ha) w rank wrote r
         (stations-stored own Used (set (f .rows) a w) (f .stations) (rowAt f a .station) t (omega (arith, y .stations, place a s o ha))
         (λ j p q. station-kept-by Used Used (f .rows) a w j (stationAt f j .decided) (λ i h. h) (stationAt f j .state) (λ _ _ h. absurd (p (sym h))) (s .stations j q))
         (λ _. seat))
@@ -112,4 +109,4 @@ module _ {f : Floor} {l : History} (a : ℕ) (s : Shows (rowDepartment a) f l) (
 -- an answer is received without effect
 pub heard-step : {f : Floor} {l : History} (p : Phase) (a b : ℕ) → Shows (rowDepartment a) f l → Owned f → Lengths f → Sound f → CanDeliver f p a b
     → StepTo (rowDepartment a) f l (withRow f a (heardRow f p a b)) (note quiet)
-heard-step {f} p a b s o y z d = row-heard a s o y z (d .used) (heardRow f p a b) refl refl refl (heard-shows p a b s d)
+heard-step {f} p a b s o y z d = row-heard a s o y z (d .used) (heardRow f p a b) refl refl (heard-written p (rowAt f a) b) (heard-shows p a b s d)

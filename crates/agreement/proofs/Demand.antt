@@ -62,7 +62,7 @@ module _ (g : Floor) (y : Lengths g) (l : List (List ℕ)) (s round v : ℕ) (fi
       row-same (floorAt g l (suc i)) (commandAt l (suc i)) (rowTaken g s) (apply-not-begun (floorAt g l (suc i)) (commandAt l (suc i)) (rest i h) (rowTaken g s)) .station
       ∙ own-row i (omega arith)
 
-module _ (f : Floor) (l : List (List ℕ)) (new : New f) (s v : ℕ) (y : Lawful (floorLeft f l)) (x : Ready (floorLeft f l) s v) (h : v < 4294967296) where
+module _ (f : Floor) (l : List (List ℕ)) (new : New f) (s v : ℕ) (y : Lawful (floorLeft f l)) (x : Ready (floorLeft f l) s) (h : v < 4294967296) where
   abbrev g : Floor
   g = floorLeft f l
 
@@ -141,6 +141,6 @@ demand3 n m t l = let f = firstFloor n m t in let new = new-floor n m t in recor
   shown = shown f l new;
   own = own-department f l new;
   kept = department-at f l new;
-  solo = λ s v place idle boxes row round offer h.
-      alone f l new s v (after-lawful f l (length l) (new-lawful n m t)) (ready f l new (new-sound n m t) s v (length l) place idle (at-least-map (omega arith) (λ b a. a) boxes) row round (omega arith)) (omega arith);
+  solo = λ s v place idle boxes row round h.
+      alone f l new s v (after-lawful f l (length l) (new-lawful n m t)) (ready f l new (new-sound n m t) s (length l) place idle (at-least-map (omega arith) (λ b a. a) boxes) row round) (omega arith);
 }

@@ -1,5 +1,5 @@
 -- The claims of demand 3 for a played file.
-use Prim.Native.Nat.{ℕ, _<_}
+use Prim.Native.Nat.{ℕ}
 use native.Mathlib.Omega.{arith}
 use native.Mathlib.Decide.{ℕ-discrete}
 use mathlib.Core.Path.{_≡_, sym, ap, subst, _∙_}
@@ -12,6 +12,7 @@ use Rattle.floor.proofs.Keeps.{told-at}
 use Rattle.floor.specs.Runs.{floorLeft}
 use Rattle.floor.specs.Claims.{PlayedOver}
 use Rattle.floor.specs.declared.Floor.{Floor}
+use Rattle.attempts.specs.declared.Decision.the-variants.{None, Revision}
 use Rattle.attempts.specs.declared.Station.{Station}
 use Rattle.drill_file.specs.DrillFile.{boxesOf, stationsOf, fileRefusal, recordsOf}
 use Rattle.player.specs.Play.{toldIn, playedOf}
@@ -20,21 +21,21 @@ use Rattle.floor.specs.declared.Played.{Played}
 use Rattle.agreement.specs.Words.{Before, DecidesAt, DecidedIn}
 use Rattle.agreement.specs.Demand.{Demand3}
 use Rattle.agreement.specs.Files.{decidedIn, startOf, departmentIn, acceptedIn, PlayedFile}
+use Rattle.base.proofs.Cases.{clash}
 use Rattle.floor.proofs.ListLaws.{left-taken}
+use Rattle.agreement.proofs.Safety.{isNone}
 use Rattle.agreement.proofs.Demand.{demand3}
 
 -- the floor of one box and one station has decided nothing
-none-decided : (t : ℕ) → stationAt (emptyFloor 1 1 []) t .decided ≡ 0
+none-decided : (t : ℕ) → stationAt (emptyFloor 1 1 []) t .decided ≡ None
 none-decided t = ap (λ (x : Station). x .decided) (told-at [] 0 t)
 
 refused-file : (s : List ℕ) → ¬ (fileRefusal s ≡ 0) → PlayedFile s
 refused-file s e =
-    record { agreement = λ t u _ h _. absurd (nothing t h); validity = λ t h. absurd (nothing t h) }
+    record { agreement = λ t u v w _ h _. absurd (nothing t v h); validity = λ t v h. absurd (nothing t v h) }
   where
-    nothing : (t : ℕ) → 0 < decidedIn s t → ⊥
-    nothing t h =
-        let z : decidedIn s t ≡ 0 = ap (λ (x : Played). stationAt (x .floor) t .decided) (played-refused s e) ∙ none-decided t in
-        omega arith
+    nothing : (t v : ℕ) → decidedIn s t ≡ Revision v → ⊥
+    nothing t v h = clash (ap isNone (ap (λ (x : Played). stationAt (x .floor) t .decided) (played-refused s e) ∙ none-decided t)) (ap isNone h)
 
 module _ (s : List ℕ) (e : fileRefusal s ≡ 0) where
   abbrev first : Floor
@@ -52,10 +53,8 @@ module _ (s : List ℕ) (e : fileRefusal s ≡ 0) where
   safe : Demand3 first (acceptedIn s)
   safe = demand3 (boxesOf s) (stationsOf s) (toldIn s) (acceptedIn s)
 
-  decides : (t : ℕ) → 0 < decidedIn s t → Before (DecidesAt first (acceptedIn s) t (decidedIn s t)) (length (acceptedIn s))
-  decides t =
-      subst (λ (g : Floor). 0 < stationAt g t .decided → Before (DecidesAt first (acceptedIn s) t (stationAt g t .decided)) (length (acceptedIn s))) (sym left)
-      (safe .shown t (length (acceptedIn s)) .decided)
+  decides : (t v : ℕ) → decidedIn s t ≡ Revision v → Before (DecidesAt first (acceptedIn s) t v) (length (acceptedIn s))
+  decides t v h = safe .shown t (length (acceptedIn s)) .decided v (ap (λ (g : Floor). stationAt g t .decided) (sym left) ∙ h)
 
   -- what a station decided was decided in its department
   decided : (t v i : ℕ) → DecidesAt first (acceptedIn s) t v i → DecidedIn first (acceptedIn s) (departmentIn s t) v i
@@ -70,14 +69,14 @@ module _ (s : List ℕ) (e : fileRefusal s ≡ 0) where
   accepted-file : PlayedFile s
   accepted-file =
       record {
-        agreement = λ t u e h i.
-            let x = decides t h in
-            let y = decides u i in
-            safe .safety (departmentIn s u) .agreement (x .at) (y .at) _ _
-            (subst (λ (d : Department). DecidedIn first (acceptedIn s) d (decidedIn s t) (x .at)) e (decided t _ (x .at) (x .holds))) (decided u _ (y .at) (y .holds));
-        validity = λ t h.
-            let x = decides t h in
-            let y = safe .safety (departmentIn s t) .validity (x .at) _ (decided t _ (x .at) (x .holds)) in
+        agreement = λ t u v w e h i.
+            let x = decides t v h in
+            let y = decides u w i in
+            safe .safety (departmentIn s u) .agreement (x .at) (y .at) v w
+            (subst (λ (d : Department). DecidedIn first (acceptedIn s) d v (x .at)) e (decided t v (x .at) (x .holds))) (decided u w (y .at) (y .holds));
+        validity = λ t v h.
+            let x = decides t v h in
+            let y = safe .safety (departmentIn s t) .validity (x .at) v (decided t v (x .at) (x .holds)) in
             let earlier = y .earlier in
             let before = x .earlier in
             (y .at, omega (arith, size), y .holds);

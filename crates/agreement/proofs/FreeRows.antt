@@ -34,7 +34,7 @@ use Rattle.attempts.specs.declared.State.the-variants.{Idle, Reading, Writing, 
 use Rattle.attempts.specs.declared.Station.{Station}
 use Rattle.attempts.specs.declared.Row.{Row}
 use Rattle.attempts.proofs.StationTests.{is-reading, is-writing, is-idle}
-use Rattle.floor.specs.Floors.{boxAt, stationAt, rowAt, ownerAt, departmentAt, InUse}
+use Rattle.floor.specs.Floors.{stationAt, rowAt, ownerAt, departmentAt, InUse}
 use Rattle.floor.specs.Effects.{rowTaken, servedBy}
 use Rattle.floor.proofs.UseLaws.{in-use-most, use-of}
 use Rattle.floor.specs.Free.{isFree, nextRow}
@@ -46,14 +46,15 @@ use Rattle.floor.proofs.FreeLaws.{free-means, free-holds, next-unused, next-som
 use Rattle.floor.proofs.Moves.{apply-station, apply-row}
 use Rattle.floor.proofs.RowLaws.{apply-begun-use, used-stays}
 use Rattle.floor.proofs.StandingLaws.{is-waiting, apply-standing}
+use Rattle.floor.proofs.ListLaws.{sound-at}
 use Rattle.agreement.specs.Words.{Before, commandAt, Attempt, attemptDepartment, Named, OverAt, decided, aborted, gone, ServesAt, DeliversAt, IssuesAt, Answering, FreedAt, FreeAt, RowLeft, unused, free}
 use Rattle.agreement.specs.GivenBack.{OwnAnswer}
-use Rattle.agreement.proofs.History.{UsedBy, StationShows}
+use Rattle.agreement.proofs.History.{UsedBy, StationShows, isWritten, served-written, heard-written}
 use Rattle.agreement.proofs.Reach.{New}
 use Rattle.agreement.proofs.Positions.{later, now, size-at, reached-at, lengths-at, owned-at, means-at, row-at}
 use Rattle.agreement.proofs.Deliveries.{owner-reads}
 use Rattle.agreement.proofs.Safety.{one-attempt}
-use Rattle.agreement.proofs.Standing.{sound-at, used-at, stopped-before, stopped-since, not-aborted}
+use Rattle.agreement.proofs.Standing.{used-at, stopped-before, stopped-since, not-aborted}
 use Rattle.agreement.proofs.Consequences.{isOver, over-since, gone-since}
 
 -- an answer was given; a request was issued
@@ -243,8 +244,8 @@ module _ (f : Floor) (l : List (List ℕ)) (new : New f) (z : Sound f) where
       → StandingMove (at-floor i) (commandAt l i) (x .number) p b (saidAt f l i) (standsAt x p b i) (standsAt x p b (suc i))
   unfolding floorAt stepOf
   standing-moves x p b i h n =
-      apply-standing (at-floor i) (sound-at f l new z i) (lengths-at f l new i) (x .number)
-      (in-use-most (at-floor i) (sound-at f l new z i) (x .number) (in-use x i n)) p b (omega (arith, size-at f l i)) (commandAt l i)
+      apply-standing (at-floor i) (sound-at f l z i) (lengths-at f l new i) (x .number)
+      (in-use-most (at-floor i) (sound-at f l z i) (x .number) (in-use x i n)) p b (omega (arith, size-at f l i)) (commandAt l i)
 
   stands : (x : Attempt f l) (p : Phase) (b : ℕ) → b < f .n → (i : ℕ) → Named f l x i → Stands x p b i (standsAt x p b i)
   stands x p b h zero n = absurd (omega (arith, n .earlier))
@@ -253,17 +254,21 @@ module _ (f : Floor) (l : List (List ℕ)) (new : New f) (z : Sound f) where
     | inr o ↦ stands-moves x p b i (o .0) (o .1) (standing-moves x p b i h (o .0)) refl (stands x p b h i (o .0))
   ]
 
-  -- an attempt whose write was issued has a revision to write
+  -- a write that was issued stays so
+  served-still-written : (p : Phase) (w : Row) (g : Register) (b : ℕ) → isWritten (w .write) ≡ true → isWritten (rowServed p w g b .write) ≡ true
+  served-still-written Read w g b h = h
+  served-still-written Write w g b h = served-written (w .write) b _ h
+
   written-moves : (x : Attempt f l) (i : ℕ) → Named f l x i → ¬ (saidAt f l i ≡ said.Begun (x .number)) → {o : Outcome} {w : Row}
-      → RowMove (at-floor i) (commandAt l i) (x .number) o w → saidAt f l i ≡ o → 0 < rowAt (at-floor i) (x .number) .written → 0 < w .written
+      → RowMove (at-floor i) (commandAt l i) (x .number) o w → saidAt f l i ≡ o → isWritten (rowAt (at-floor i) (x .number) .write) ≡ true → isWritten (w .write) ≡ true
   written-moves x i n other row-kept e h = h
   written-moves x i n other (row-begins c s q) e h = absurd (other (e ∙ ap said.Begun (sym q)))
-  written-moves x i n other (row-served c d) e h = h
-  written-moves x i n other (row-heard c d k) e h = h
+  written-moves x i n other (row-served {p = p} {b = b} c d) e h = served-still-written p (rowAt (at-floor i) (x .number)) _ b h
+  written-moves x i n other (row-heard {p = p} {b = b} c d k) e h = heard-written p (rowAt (at-floor i) (x .number)) b ∙ h
   written-moves x i n other (row-issues c d r q t u) e h =
-      absurd (omega (arith, owner-reads (x .number) (reached-at f l new (attemptDepartment f l x) i .shows) (owned-at f l new i) (in-use x i n) r))
+      clash h (owner-reads (x .number) (reached-at f l new (attemptDepartment f l x) i .shows) (owned-at f l new i) (in-use x i n) r)
 
-  issued-now : (x : Attempt f l) (i : ℕ) → IssuesAt f l x i → 0 < rowAt (at-floor (suc i)) (x .number) .written
+  issued-now : (x : Attempt f l) (i : ℕ) → IssuesAt f l x i → isWritten (rowAt (at-floor (suc i)) (x .number) .write) ≡ true
   issued-now x i d =
       let m = means-at f l new i (said.WriteIssued (d .revision)) (d .accepted) in
       let a : m .attempt ≡ x .number = cc (m .command, d .asked) in
@@ -271,9 +276,9 @@ module _ (f : Floor) (l : List (List ℕ)) (new : New f) (z : Sound f) where
       let d = departmentAt (at-floor (suc i)) j in
       let s = reached-at f l new d (suc i) .shows .stations j refl in
       let w = subst (StationShows (UsedBy d (at-floor (suc i))) (at-floor (suc i) .rows) j (stationAt (at-floor (suc i)) j .decided)) (ap (λ (t : Station). t .state) (m .owner)) s in
-      subst (λ (k : ℕ). 0 < rowAt (at-floor (suc i)) k .written) a (w .2)
+      subst (λ (k : ℕ). isWritten (rowAt (at-floor (suc i)) k .write) ≡ true) a (w .2)
 
-  issued-written : (x : Attempt f l) (i : ℕ) → Named f l x i → Before (IssuesAt f l x) i → 0 < rowAt (at-floor i) (x .number) .written
+  issued-written : (x : Attempt f l) (i : ℕ) → Named f l x i → Before (IssuesAt f l x) i → isWritten (rowAt (at-floor i) (x .number) .write) ≡ true
   unfolding floorAt stepOf
   issued-written x zero n d = absurd (omega (arith, n .earlier))
   issued-written x (suc i) n d = elim (up-to (d .earlier)) [
@@ -291,9 +296,9 @@ module _ (f : Floor) (l : List (List ℕ)) (new : New f) (z : Sound f) where
     not-again (none e) k q r = clash k refl
     not-again (waits h) k q r = clash k refl
     not-again (answered h s) k q r =
-        omega (arith, issued-written x i n (subst (λ (y : Phase). Issued x p b y i) q h), owner-reads (x .number) (reached-at f l new (attemptDepartment f l x) i .shows) (owned-at f l new i) (in-use x i n) r)
+        clash (issued-written x i n (subst (λ (y : Phase). Issued x p b y i) q h)) (owner-reads (x .number) (reached-at f l new (attemptDepartment f l x) i .shows) (owned-at f l new i) (in-use x i n) r)
     not-again (heard h s d) k q r =
-        omega (arith, issued-written x i n (subst (λ (y : Phase). Issued x p b y i) q h), owner-reads (x .number) (reached-at f l new (attemptDepartment f l x) i .shows) (owned-at f l new i) (in-use x i n) r)
+        clash (issued-written x i n (subst (λ (y : Phase). Issued x p b y i) q h)) (owner-reads (x .number) (reached-at f l new (attemptDepartment f l x) i .shows) (owned-at f l new i) (in-use x i n) r)
 
     served-still : {o : Outcome} {s t : Standing} → StandingMove (at-floor i) (commandAt l i) (x .number) p b o s t → saidAt f l i ≡ o → Stands x p b i s
         → isServed s ≡ true → isServed t ≡ true
@@ -319,7 +324,7 @@ module _ (f : Floor) (l : List (List ℕ)) (new : New f) (z : Sound f) where
       let m = means-at f l new i (said.Served (x .number)) (d .accepted) in
       let q : m .phase ≡ p = cc (m .command, d .asked) in
       let c : m .box ≡ b = cc (m .command, d .asked) in
-      let slots = lengths-at f l new i .slots p (x .number) (in-use-most (at-floor i) (sound-at f l new z i) (x .number) (in-use x i n)) in
+      let slots = lengths-at f l new i .slots p (x .number) (in-use-most (at-floor i) (sound-at f l z i) (x .number) (in-use x i n)) in
       let r : rowAt (at-floor (suc i)) (x .number) ≡ rowServed p (rowAt (at-floor i) (x .number)) (servedBy (at-floor i) (x .number) b) b =
       m .row ∙ rw (q, c) refl in
       rw r (row-served-stands p (rowAt (at-floor i) (x .number)) (servedBy (at-floor i) (x .number) b) b (omega (arith, slots, z .box-most)))
@@ -424,7 +429,7 @@ module _ (f : Floor) (l : List (List ℕ)) (new : New f) (z : Sound f) where
   ]
   row-left d i (free a e y) =
       let o = free-there a i y in
-      next-some (at-floor i) d (sound-at f l new z i .rows-most d) a e (use-of (at-floor i) d a e (o .0)) (o .1)
+      next-some (at-floor i) d (sound-at f l z i .rows-most d) a e (use-of (at-floor i) d a e (o .0)) (o .1)
 
   -- an answer that was received was served and delivered for the attempt that the number means
   received-own : (x : Attempt f l) (p : Phase) (b i : ℕ) {s : Standing} → Stands x p b i s → s ≡ received → OwnAnswer f l x p b i

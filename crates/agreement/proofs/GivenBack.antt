@@ -22,11 +22,12 @@ use Rattle.floor.specs.declared.Floor.{Floor}
 use Rattle.floor.proofs.FreeLaws.{next-own, next-free}
 use Rattle.floor.proofs.Keeps.{new-sound}
 use Rattle.floor.proofs.StationLaws.{last-from}
+use Rattle.floor.proofs.ListLaws.{sound-at}
 use Rattle.agreement.specs.Words.{commandAt, Attempt, attemptRank, attemptDepartment, Named, ServedAt, ServesAt, DeliversAt, FreedAt}
 use Rattle.agreement.specs.Demand.{firstFloor}
 use Rattle.agreement.specs.GivenBack.{Drops, GivenBackTheorem}
 use Rattle.agreement.proofs.Reach.{New, new-floor}
-use Rattle.agreement.proofs.Standing.{sound-at, used-at, highest-at}
+use Rattle.agreement.proofs.Standing.{used-at, highest-at}
 use Rattle.agreement.proofs.FreeRows.{begins, in-use, freed-of, free-at, free-there, own-answer}
 
 module _ (f : Floor) (l : List (List ℕ)) (new : New f) (z : Sound f) where
@@ -43,7 +44,7 @@ module _ (f : Floor) (l : List (List ℕ)) (new : New f) (z : Sound f) where
   ]
 
   station-below : (x : Attempt f l) → x .station < 16
-  station-below x = omega (arith, begins f l new z x .station, sound-at f l new z (x .at) .station-most)
+  station-below x = omega (arith, begins f l new z x .station, sound-at f l z (x .at) .station-most)
 
   -- of two attempts of one rank neither is the later
   not-later : (x y : Attempt f l) → attemptRank f l x ≡ attemptRank f l y → ¬ (x .at < y .at)

@@ -12,16 +12,19 @@ use Rattle.register.specs.declared.Register.{Register}
 use Rattle.register.specs.declared.StorageBox.{StorageBox}
 use Rattle.protocol.specs.Trace.{Box, Event, read, nack, issued, took, refused, note}
 use Rattle.protocol.specs.Claims.{Persistent}
-use Rattle.requests.specs.Requests.{slot0, slotAt, heardFrom, slotWaiting, waitingBelow, issuedTo}
+use Rattle.requests.specs.Requests.{slot0, slotAt, heardFrom, slotWaiting, waitingBelow, issuedTo, servedAt}
+use Rattle.requests.specs.declared.Phase.{Phase}
+use Rattle.requests.specs.declared.Phase.the-variants.{Read, Write}
 use Rattle.requests.specs.declared.Slot.{Slot}
 use Rattle.requests.specs.declared.Requests.{Requests}
-use Rattle.register.specs.Register.{box0, registerOf}
 use Rattle.attempts.specs.Stations.{station0, isActive}
-use Rattle.attempts.specs.Rows.{row0, answer0, rowDepartment, firstRow}
+use Rattle.attempts.specs.Rows.{row0, answer0, rowDepartment, firstRow, rowHeard}
 use Rattle.floor.specs.Floors.{stationAt, rowAt, registerAt, departmentAt, InUse}
 use Rattle.floor.specs.Departments.{SameFor, Owned}
 use Rattle.floor.specs.declared.Share.{Share}
 use Rattle.floor.proofs.UseLaws.{use-of, of-use}
+use Rattle.attempts.specs.declared.Decision.{Decision}
+use Rattle.attempts.specs.declared.Decision.the-variants.{Revision}
 use Rattle.attempts.specs.declared.State.{State}
 use Rattle.attempts.specs.declared.State.the-variants.{Idle, Reading, Writing, Decided, Gone}
 use Rattle.requests.specs.declared.Stage.{Stage}
@@ -95,9 +98,18 @@ unfolding waitingBelow
 waiting-unanswered zero j = ap (λ (x : Slot). isAnswered (x .stage)) (getD-same 9 j slot0)
 waiting-unanswered (suc k) j = set-all slot0 (λ (i : ℕ) (x : Slot). isAnswered (x .stage) ≡ false) (waitingBelow k) k slotWaiting (waiting-unanswered k) refl j
 
--- a write rank and a value, of a box or of its answer: a value is held exactly where a rank wrote it
-abbrev pub Paired : ℕ → ℕ → Type 0
-Paired w x = (w ≡ 0 → x ≡ 0) × (0 < w → 0 < x)
+-- A write is issued to every box, so it was issued where its request at box 0 was.
+abbrev pub isWritten : Requests → Bool
+isWritten requests = isIssued (slotAt requests 0 .stage)
+
+-- it stays issued when a box serves it, and when an answer is received
+pub served-written : (q : Requests) (b : ℕ) (t : Bool) → isWritten q ≡ true → isWritten (servedAt q b t) ≡ true
+served-written q b t =
+    set-all slot0 (λ (j : ℕ) (x : Slot). isIssued (slotAt q j .stage) ≡ true → isIssued (x .stage) ≡ true) (q .slots) b (record { stage = Answered; ok = t }) (λ j h. h) (λ _. refl) 0
+
+pub heard-written : (p : Phase) (w : Row) (b : ℕ) → isWritten (rowHeard p w b .write) ≡ isWritten (w .write)
+heard-written Read w b = refl
+heard-written Write w b = refl
 
 -- The relation, part by part. Its parameters are values and not places of the floor, so that what a step leaves alone is handed on as
 -- it is. The reads of a row: what was received was answered, and each answer was given at that box: what it held, or that the read was
@@ -107,15 +119,14 @@ pub record ReadsShow (rank : ℕ) (requests : Requests) (answers : List Answer) 
   pub answered : (b : ℕ) → isAnswered (slotAt requests b .stage) ≡ true → slotAt requests b .ok ≡ true
       → List·Memᴰ (read rank b (getD answers b answer0 .rank) (getD answers b answer0 .value)) l
   pub told : (b : ℕ) → isAnswered (slotAt requests b .stage) ≡ true → slotAt requests b .ok ≡ false → List·Memᴰ (nack rank b) l
-  pub paired : (b : ℕ) → Paired (getD answers b answer0 .rank) (getD answers b answer0 .value)
 
 -- The writes of a row: they were issued with the row's revision, and each answer was given at that box; no other write of this rank
 -- was taken.
 pub record WritesShow (rank written : ℕ) (requests : Requests) (l : History) : Type 0 where
   pub received : (b : ℕ) → heardFrom requests b ≡ true → isAnswered (slotAt requests b .stage) ≡ true
-  pub after-issue : (b : ℕ) → isIssued (slotAt requests b .stage) ≡ true → 0 < written
-  pub issue : 0 < written → List·Memᴰ (issued rank written) l
-  pub unwritten : written ≡ 0 → Unwritten l rank
+  pub after-issue : (b : ℕ) → isIssued (slotAt requests b .stage) ≡ true → isWritten requests ≡ true
+  pub issue : isWritten requests ≡ true → List·Memᴰ (issued rank written) l
+  pub unwritten : isWritten requests ≡ false → Unwritten l rank
   pub taken : (b : ℕ) → isAnswered (slotAt requests b .stage) ≡ true → slotAt requests b .ok ≡ true → List·Memᴰ (took rank b) l
   pub refusal : (b : ℕ) → isAnswered (slotAt requests b .stage) ≡ true → slotAt requests b .ok ≡ false → List·Memᴰ (refused rank b) l
   pub only : (b : ℕ) → List·Memᴰ (took rank b) l → (isAnswered (slotAt requests b .stage) ≡ true) × (slotAt requests b .ok ≡ true)
@@ -123,23 +134,22 @@ pub record WritesShow (rank written : ℕ) (requests : Requests) (l : History) :
 pub record RowShows (w : Row) (l : History) : Type 0 where
   pub positive : 0 < w .rank
   pub place : w .rank % 16 ≡ w .station
-  pub revision : 0 < w .offer
   pub offer : Offered l (w .offer)
   pub reads : ReadsShow (w .rank) (w .read) (w .answers) l
   pub writes : WritesShow (w .rank) (w .written) (w .write) l
 
--- The station j that shows the decided revision v: where it reads or writes, it is in a row in use, which `Used` has, of its own.
-abbrev pub StationShows : (ℕ → Type 0) → List Row → ℕ → ℕ → State → Type 0
+-- The station j that shows v for what it decided: where it reads or writes, it is in a row in use, which `Used` has, of its own; where it
+-- decided, it shows a revision.
+abbrev pub StationShows : (ℕ → Type 0) → List Row → ℕ → Decision → State → Type 0
 StationShows Used rows j v Idle = Unit {0}
-StationShows Used rows j v (Reading a) = Used a × (getD rows a row0 .station ≡ j) × (getD rows a row0 .written ≡ 0)
-StationShows Used rows j v (Writing a) = Used a × (getD rows a row0 .station ≡ j) × (0 < getD rows a row0 .written)
-StationShows Used rows j v (Decided a) = 0 < v
+StationShows Used rows j v (Reading a) = Used a × (getD rows a row0 .station ≡ j) × (isWritten (getD rows a row0 .write) ≡ false)
+StationShows Used rows j v (Writing a) = Used a × (getD rows a row0 .station ≡ j) × (isWritten (getD rows a row0 .write) ≡ true)
+StationShows Used rows j v (Decided a) = (u : ℕ) × (v ≡ Revision u)
 StationShows Used rows j v Gone = Unit {0}
 
 -- What a floor shows of the history of the department d. Rows have ranks of their own, none above its station's last round; above that round
 -- nothing was written yet.
 pub record Shows (d : Department) (f : Floor) (l : History) : Type 0 where
-  pub paired : (b : ℕ) → Paired (registerAt f d b .write) (registerAt f d b .value)
   pub rows : (a : ℕ) → UsedBy d f a → RowShows (rowAt f a) l
   pub distinct : (a c : ℕ) → UsedBy d f a → UsedBy d f c → rowAt f a .rank ≡ rowAt f c .rank → a ≡ c
   pub begun : (a : ℕ) → UsedBy d f a → rowAt f a .rank / 16 ≤ stationAt f (rowAt f a .rank % 16) .last
@@ -153,7 +163,6 @@ module _ {l : History} (e : Happening) where
     received = s .received;
     answered = λ b h t. List·Memᴰ·tail (s .answered b h t);
     told = λ b h t. List·Memᴰ·tail (s .told b h t);
-    paired = s .paired;
   }
 
   pub writes-more : {rank written : ℕ} {requests : Requests} → ¬ (writerOf e ≡ suc rank)
@@ -172,16 +181,15 @@ module _ {l : History} (e : Happening) where
   row-more d s = record {
     positive = s .positive;
     place = s .place;
-    revision = s .revision;
     offer = List·Memᴰ·tail (s .offer);
     reads = reads-more (s .reads);
     writes = writes-more d (s .writes);
   }
 
--- a row is stored; where the station j owned it and is in it, the new one is the station's too, and has written as much
-module _ (Used Then : ℕ → Type 0) (rows : List Row) (a : ℕ) (w : Row) (j v : ℕ) (up : (i : ℕ) → Used i → Then i) where
+-- a row is stored; where the station j owned it and is in it, the new one is the station's too, and its write was issued where it was before
+module _ (Used Then : ℕ → Type 0) (rows : List Row) (a : ℕ) (w : Row) (j : ℕ) (v : Decision) (up : (i : ℕ) → Used i → Then i) where
   abbrev Kept : State → ℕ → Row → Type 0
-  Kept p i x = isActive p i ≡ true → Used i → getD rows i row0 .station ≡ j → (x .station ≡ j) × (x .written ≡ getD rows i row0 .written)
+  Kept p i x = isActive p i ≡ true → Used i → getD rows i row0 .station ≡ j → (x .station ≡ j) × (isWritten (x .write) ≡ isWritten (getD rows i row0 .write))
 
   kept : (p : State) → Kept p a w → (i : ℕ) → Kept p i (getD (set rows a w) i row0)
   kept p same = set-all row0 (Kept p) rows a w (λ i _ h e. (e, refl)) same
@@ -189,7 +197,7 @@ module _ (Used Then : ℕ → Type 0) (rows : List Row) (a : ℕ) (w : Row) (j v
   pub station-kept-by : (p : State) → Kept p a w → StationShows Used rows j v p → StationShows Then (set rows a w) j v p
   station-kept-by Idle same s = tt
   station-kept-by (Reading i) same s = let o = kept (Reading i) same i (eq-eqb i i refl) (s .0) (s .1) in (up i (s .0), o .0, o .1 ∙ s .2)
-  station-kept-by (Writing i) same s = let o = kept (Writing i) same i (eq-eqb i i refl) (s .0) (s .1) in (up i (s .0), o .0, omega (arith, o .1, s .2))
+  station-kept-by (Writing i) same s = let o = kept (Writing i) same i (eq-eqb i i refl) (s .0) (s .1) in (up i (s .0), o .0, o .1 ∙ s .2)
   station-kept-by (Decided i) same s = s
   station-kept-by Gone same s = tt
 
@@ -210,13 +218,11 @@ station-same ss t y e = set-all station0 (λ (j : ℕ) (x : Station). SameStatio
 -- The floor after an event, where boxes and stations become bs and ss and each station keeps its last round and its department: what is left
 -- to show.
 module _ {d : Department} {f : Floor} {l : History} (s : Shows d f l) (e : Happening) (bs : List StorageBox) (ss : List Station)
-    (paired : (b : ℕ) → Paired (registerOf d (getD bs b box0) .write) (registerOf d (getD bs b box0) .value))
     (same : (j : ℕ) → SameStation (stationAt f j) (getD ss j station0)) where
   -- nothing is written, and the rows stay
   pub shows-kept : writerOf e ≡ 0 → ((j : ℕ) → getD ss j station0 .department ≡ d → StationShows (UsedBy d f) (f .rows) j (getD ss j station0 .decided) (getD ss j station0 .state))
       → Shows d (record { n = f .n; m = f .m; shares = f .shares; boxes = bs; stations = ss; rows = f .rows }) (e ∷ l)
   shows-kept silent stations = record {
-    paired = paired;
     rows = λ a h. row-more e (λ q. omega arith) (s .rows a h);
     distinct = s .distinct;
     begun = λ a h. rw (same (rowAt f a .rank % 16) .0) (s .begun a h);
@@ -238,7 +244,6 @@ module _ {d : Department} {f : Floor} {l : History} (s : Shows d f l) (e : Happe
         → ((j : ℕ) → getD ss j station0 .department ≡ d → StationShows (UsedBy d f) (set (f .rows) a w) j (getD ss j station0 .decided) (getD ss j station0 .state))
         → Shows d (record { n = f .n; m = f .m; shares = f .shares; boxes = bs; stations = ss; rows = set (f .rows) a w }) (e ∷ l)
     shows-stored new stations = record {
-      paired = paired;
       rows = set-in row0 (λ (k : ℕ) (x : Row). UsedBy d f k → RowShows x (e ∷ l)) (f .rows) a w (omega (arith, y .rows))
           (λ k p h. row-more e (λ q. p (s .distinct k a h ha (own (rowAt f k .rank) q))) (s .rows k h)) (λ h. new);
       distinct = λ i j hi hj q. s .distinct i j hi hj (sym (rank-kept i) ∙ q ∙ rank-kept j);
@@ -255,14 +260,14 @@ module _ {d : Department} {f g : Floor} {l : History} (s : Shows d f l) (o : Own
   same-used : (a : ℕ) → UsedBy d f a → UsedBy d g a
   same-used a h = (h .0, of-use g d a (h .0) (subst (λ (x : Share). a < firstRow d + x .used) (sym (k .share)) (use-of f d a (h .0) (h .1))))
 
-  seat-same : (j v : ℕ) (p : State) → StationShows (UsedBy d f) (f .rows) j v p → StationShows (UsedBy d g) (g .rows) j v p
+  seat-same : (j : ℕ) (v : Decision) (p : State) → StationShows (UsedBy d f) (f .rows) j v p → StationShows (UsedBy d g) (g .rows) j v p
   seat-same j v Idle q = tt
   seat-same j v (Reading a) q =
       let e = k .rows a (q .0 .0) in
-      (same-used a (q .0), ap (λ (w : Row). w .station) e ∙ q .1, ap (λ (w : Row). w .written) e ∙ q .2)
+      (same-used a (q .0), ap (λ (w : Row). w .station) e ∙ q .1, ap (λ (w : Row). isWritten (w .write)) e ∙ q .2)
   seat-same j v (Writing a) q =
       let e = k .rows a (q .0 .0) in
-      (same-used a (q .0), ap (λ (w : Row). w .station) e ∙ q .1, omega (arith, ap (λ (w : Row). w .written) e, q .2))
+      (same-used a (q .0), ap (λ (w : Row). w .station) e ∙ q .1, ap (λ (w : Row). isWritten (w .write)) e ∙ q .2)
   seat-same j v (Decided a) q = q
   seat-same j v Gone q = tt
 
@@ -272,7 +277,6 @@ module _ {d : Department} {f g : Floor} {l : History} (s : Shows d f l) (o : Own
 
   pub shows-same : Shows d g (note quiet ∷ l)
   shows-same = record {
-    paired = λ b. rw (k .registers b) (s .paired b);
     rows = λ a h. rw (k .rows a (h .0)) (row-more (note quiet) (λ q. omega arith) (s .rows a (used-same a h)));
     distinct = λ a c h i q.
         s .distinct a c (used-same a h) (used-same c i) (ap (λ (w : Row). w .rank) (sym (k .rows a (h .0))) ∙ q ∙ ap (λ (w : Row). w .rank) (k .rows c (i .0)));

@@ -2,18 +2,19 @@
 use Prim.Native.Nat.{ℕ, _<_}
 use native.Mathlib.Nat.{eq-zero-or-pos}
 use native.Mathlib.Omega.{arith}
-use mathlib.Core.Path.{_≡_, refl, sym, ap}
+use mathlib.Core.Path.{_≡_, refl, sym, ap, _∙_}
 use mathlib.Core.Logic.{inl, inr}
-use mathlib.Core.Bool.{true}
+use mathlib.Core.Bool.{true, false}
 use mathlib.Core.List.{_∷_, List·Memᴰ, List·Memᴰ·head, List·Memᴰ·tail, List·Memᴰ·cases-cons}
 use lib.ListN.{getD, set}
 use Rattle.protocol.specs.View.{MayIssue}
 use Rattle.protocol.specs.Trace.{read, issued, took, issue}
 use Rattle.base.proofs.MaskLaws.{bit-zero}
-use Rattle.requests.specs.Requests.{heardFrom, atQuorum, allYes}
+use Rattle.requests.specs.Requests.{heardFrom, issuedTo, atQuorum, allYes}
+use Rattle.requests.specs.declared.Slot.{Slot}
 use Rattle.requests.specs.declared.Phase.the-variants.{Read}
-use Rattle.requests.proofs.RequestLaws.{quorum-majority, yes-means}
-use Rattle.attempts.specs.Rows.{row0, answer0, rowDepartment, noBest, bestFrom, bestOf, revisionFrom, revisionOf}
+use Rattle.requests.proofs.RequestLaws.{wait-below, quorum-majority, yes-means}
+use Rattle.attempts.specs.Rows.{row0, answer0, rowDepartment, noBest, bestFrom, revisionFrom, revisionOf}
 use Rattle.attempts.specs.Stations.{isReading, withState}
 use Rattle.floor.specs.Claims.{Sound, Lengths, CanDeliver}
 use Rattle.attempts.specs.Rows as rows
@@ -29,8 +30,8 @@ use Rattle.floor.specs.Departments.{Owned}
 use Rattle.floor.specs.Effects.{heardRow, afterIssue}
 use Rattle.floor.proofs.Keeps.{used-stored}
 use Rattle.attempts.specs.Claims.{Found, nothing, highest}
-use Rattle.attempts.proofs.Answers.{best-found, revision-offer, revision-value, revision-either}
-use Rattle.agreement.proofs.History.{History, waiting-unanswered, RowShows, Shows, reads-more}
+use Rattle.attempts.proofs.Answers.{best-found, revision-offer, revision-value}
+use Rattle.agreement.proofs.History.{History, isIssued, isWritten, waiting-unanswered, RowShows, Shows, reads-more}
 use Rattle.agreement.proofs.Serves.{StepTo}
 use Rattle.agreement.proofs.Deliveries.{viewOf, heard-shows, owner-reads, row-moved}
 
@@ -69,10 +70,10 @@ module _ {f : Floor} {l : History} (a b : ℕ) (s : Shows (rowDepartment a) f l)
         majority = quorum-majority (w .read) (f .n) q (λ j k i. record { rank = answerAt w j .rank; value = answerAt w j .value; read = read-of j k i; at-most = top j k i });
         highest = λ p. (c, read-of c h m);
       };
-      follows = λ p. sym (revision-value (bestFrom (answerAt w c)) (w .offer) (shown .reads .paired c .1 p));
+      follows = λ p. sym (revision-value (bestFrom (answerAt w c)) (w .offer) p);
       offered = λ k. elim (eq-zero-or-pos (answerAt w c .rank)) [
-        | inl e ↦ rw (revision-offer (bestFrom (answerAt w c)) (w .offer) (shown .reads .paired c .0 e)) (shown .offer)
-        | inr p ↦ rw (revision-value (bestFrom (answerAt w c)) (w .offer) (shown .reads .paired c .1 p)) (k p)
+        | inl e ↦ rw (revision-offer (bestFrom (answerAt w c)) (w .offer) e) (shown .offer)
+        | inr p ↦ rw (revision-value (bestFrom (answerAt w c)) (w .offer) p) (k p)
       ];
     }
 
@@ -83,29 +84,24 @@ module _ {f : Floor} {l : History} (a b : ℕ) (s : Shows (rowDepartment a) f l)
     unfolding revisionOf
     value-allowed = may-issue (best-found (w .answers) (w .read) (f .n))
 
-    value-positive : 0 < value
-    unfolding revisionOf
-    value-positive = elim (revision-either (bestOf (w .answers) (w .read) (f .n)) (w .offer)) [
-      | inl e ↦ omega (arith, e .1, shown .revision)
-      | inr e ↦ omega (arith, e .0, e .1)
-    ]
-
-    unwritten : w .written ≡ 0
+    unwritten : isWritten (w .write) ≡ false
     unwritten = owner-reads a s o (d .used) reads
+
+    written : isWritten (issuedTo (f .n)) ≡ true
+    written = ap (λ (x : Slot). isIssued (x .stage)) (wait-below (f .n) (z .box-most) 0 (omega (arith, z .box-least)))
 
     issued-row : RowShows (rows.issued w value (f .n)) (issued (w .rank) value ∷ l)
     unfolding rows.issued
     issued-row = record {
       positive = shown .positive;
       place = shown .place;
-      revision = shown .revision;
       offer = List·Memᴰ·tail (shown .offer);
       reads = reads-more (issued (w .rank) value) (shown .reads);
       writes = record {
         received = λ j m. clash m (bit-zero j);
-        after-issue = λ _ _. value-positive;
+        after-issue = λ _ _. written;
         issue = λ _. List·Memᴰ·head refl;
-        unwritten = λ e. absurd (omega (arith, value-positive));
+        unwritten = λ e. clash written e;
         taken = λ j h. clash h (waiting-unanswered (f .n) j);
         refusal = λ j h. clash h (waiting-unanswered (f .n) j);
         only = λ j m. elim (List·Memᴰ·cases-cons m) [
@@ -124,5 +120,5 @@ module _ {f : Floor} {l : History} (a b : ℕ) (s : Shows (rowDepartment a) f l)
       step = issue (λ j. refl) value-allowed (λ u m. absurd (shown .writes .unwritten unwritten (issued (w .rank) u) m refl));
       shows = row-moved a s o y z (d .used) (rows.issued w value (f .n)) refl (withState (ownerAt f a) (Writing a)) (refl, refl)
           (issued (w .rank) value) (λ r e. omega arith) issued-row
-          ((refl, d .used), ap (λ (x : Row). x .station) stored, omega (arith, ap (λ (x : Row). x .written) stored, value-positive));
+          ((refl, d .used), ap (λ (x : Row). x .station) stored, ap (λ (x : Row). isWritten (x .write)) stored ∙ written);
     }

@@ -37,8 +37,8 @@ use Rattle.floor.proofs.StepCases.{StepCase, turned, began, served, heard, issu
 use Rattle.floor.proofs.StepCases as cases
 use Rattle.floor.proofs.Keeps.{empty-lengths, empty-unused, told-at, new-floor-by}
 use Rattle.base.proofs.Stores.{set-all, getD-same}
-use Rattle.agreement.proofs.History.{offered, quiet, Happening, History, Offered, offered-stays, toBox, registersOf, UsedBy, Paired, stations-stored, station-same, Shows, shows-kept, shows-same}
-use Rattle.agreement.proofs.Serves.{StepTo, seen, boxes-paired, askedEvent, wroteEvent, servedEvent, serve-step}
+use Rattle.agreement.proofs.History.{offered, quiet, Happening, History, Offered, offered-stays, toBox, registersOf, UsedBy, stations-stored, station-same, Shows, shows-kept, shows-same}
+use Rattle.agreement.proofs.Serves.{StepTo, seen, askedEvent, wroteEvent, servedEvent, serve-step}
 use Rattle.agreement.proofs.Deliveries.{viewOf, heard-step}
 use Rattle.agreement.proofs.Issues.{issue-step}
 use Rattle.agreement.proofs.Decisions.{decision-step, abort-step}
@@ -77,7 +77,7 @@ reached-inv {f = f} k = run-inv (f .n) _≡_ Offered (equality .transitive) offe
 -- a step that leaves the rows as they are
 module _ {d : Department} {f : Floor} {l : History} (s : Shows d f l) where
   refused-step : StepTo d f l f (note quiet)
-  refused-step = record { step = other-event (λ j. refl); shows = shows-kept s (note quiet) (f .boxes) (f .stations) (s .paired) (λ j. (refl, refl)) refl (s .stations) }
+  refused-step = record { step = other-event (λ j. refl); shows = shows-kept s (note quiet) (f .boxes) (f .stations) (λ j. (refl, refl)) refl (s .stations) }
 
   -- a box that stops keeps its records
   stop-kept : (b : ℕ) → registerOf d (effects.stopped (boxAt f b)) ≡ registerAt f d b
@@ -90,13 +90,13 @@ module _ {d : Department} {f : Floor} {l : History} (s : Shows d f l) where
   stop-step : (b : ℕ) → StepTo d f l (afterStop f b) (note quiet)
   stop-step b = record {
     step = other-event (set-all box0 (λ (j : ℕ) (x : StorageBox). seen d x ≡ registersOf d f j) (f .boxes) b _ (λ j. refl) (ap toBox (stop-kept b)));
-    shows = shows-kept s (note quiet) _ (f .stations) (boxes-paired s b (effects.stopped (boxAt f b)) (rw (stop-kept b) (s .paired b))) (λ j. (refl, refl)) refl (s .stations);
+    shows = shows-kept s (note quiet) _ (f .stations) (λ j. (refl, refl)) refl (s .stations);
   }
 
   leave-step : Lengths f → Sound f → (j : ℕ) → CanLeave f j → StepTo d f l (afterLeave f j) (note quiet)
   leave-step y z j k = record {
     step = other-event (λ i. refl);
-    shows = shows-kept s (note quiet) (f .boxes) _ (s .paired) (station-same (f .stations) j (withState (stationAt f j) state.Gone) (refl, refl)) refl
+    shows = shows-kept s (note quiet) (f .boxes) _ (station-same (f .stations) j (withState (stationAt f j) state.Gone) (refl, refl)) refl
         (stations-stored d (UsedBy d f) (f .rows) (f .stations) j (withState (stationAt f j) state.Gone) (omega (arith, y .stations, k .station, z .station-most))
         (λ i p. s .stations i) (λ _. tt));
   }
@@ -227,7 +227,6 @@ new-reached {f} d x = record {
   owned = λ a h. absurd (x .unused a h);
   run = new (λ b. ap (λ (c : StorageBox). registerOf d c .read) (x .boxes b) ∙ none d .0) (λ b. ap (λ (c : StorageBox). registerOf d c .write) (x .boxes b) ∙ none d .1);
   shows = record {
-    paired = λ b. rw (x .boxes b) (pair d);
     rows = λ a h. absurd (x .unused a (h .1));
     distinct = λ a c h. absurd (x .unused a (h .1));
     begun = λ a h. absurd (x .unused a (h .1));
@@ -239,7 +238,3 @@ new-reached {f} d x = record {
     none : (d : Department) → (registerOf d box0 .read ≡ 0) × (registerOf d box0 .write ≡ 0)
     none Sails = (refl, refl)
     none Canvas = (refl, refl)
-
-    pair : (d : Department) → Paired (registerOf d box0 .write) (registerOf d box0 .value)
-    pair Sails = (λ e. refl, λ h. h)
-    pair Canvas = (λ e. refl, λ h. h)

@@ -4,7 +4,7 @@ use native.Mathlib.Decide.{decLt}
 use native.Mathlib.Omega.{arith}
 use mathlib.Core.Path.{_≡_, refl, sym, ap, subst, _∙_}
 use mathlib.Core.Logic.{inl, inr}
-use mathlib.Core.Bool.{false}
+use mathlib.Core.Bool.{Bool, true, false}
 use mathlib.Core.List.{List, List·Memᴰ}
 use Rattle.base.specs.Quorum.{Majority}
 use Rattle.protocol.specs.View.{Chosen}
@@ -20,6 +20,8 @@ use Rattle.floor.specs.Floors.{stationAt, rowAt, departmentAt, InUse}
 use Rattle.floor.specs.Step.{stepOf}
 use Rattle.floor.specs.Claims.{CanDeliver}
 use Rattle.attempts.specs.Rows.{rowDepartment, requestsHeard}
+use Rattle.attempts.specs.declared.Decision.{Decision}
+use Rattle.attempts.specs.declared.Decision.the-variants.{None, Revision}
 use Rattle.attempts.specs.declared.State.the-variants.{Decided}
 use Rattle.attempts.specs.declared.Station.{Station}
 use Rattle.floor.specs.declared.Floor.{Floor}
@@ -30,11 +32,16 @@ use Rattle.agreement.specs.Words.{Before, commandAt, Attempt, attemptDep
 use Rattle.floor.specs.Runs.{floorAt, saidAt}
 use Rattle.agreement.specs.Demand.{Safety}
 use Rattle.agreement.proofs.History.{offered, Offered}
-use Rattle.agreement.proofs.Deliveries.{viewOf, owner-writes}
+use Rattle.agreement.proofs.Deliveries.{viewOf}
 use Rattle.agreement.proofs.Decisions.{decision-chosen, abort-refused, abort-told}
 use Rattle.agreement.proofs.Reach.{reached-inv, Serving, New}
-use Rattle.base.proofs.Cases.{up-to}
+use Rattle.base.proofs.Cases.{clash, up-to}
 use Rattle.agreement.proofs.Positions.{later, now, history, caused, still-happened, size-at, reached-at, owned-at, means-at, row-at}
+
+-- a station that has decided nothing shows none
+abbrev pub isNone : Decision → Bool
+isNone None = true
+isNone (Revision v) = false
 
 module _ (f : Floor) (l : List (List ℕ)) where
   -- one number names one attempt
@@ -60,7 +67,7 @@ module _ (f : Floor) (l : List (List ℕ)) where
   }
 
   module _ (new : New f) where
-    -- a decision is of a revision that was chosen in its department, and no revision is 0
+    -- a decision is of a revision that was chosen in its department
     chosen-at : (d : Department) (i v : ℕ) → DecidedIn f l d v i → (r : ℕ) × ChosenAt d r v i
     chosen-at d i v e =
         let m = means-at f l new i (said.Decided v) (e .accepted) in
@@ -72,11 +79,6 @@ module _ (f : Floor) (l : List (List ℕ)) where
           subst (λ (e : Department). ChosenAt e (rowAt (floorAt f l i) a .rank) v i) q
               (subst (λ (u : ℕ). ChosenAt (rowDepartment a) (rowAt (floorAt f l i) a .rank) u i) (sym (m .written)) c),
         )
-
-    decided-positive : (i v : ℕ) → saidAt f l i ≡ said.Decided v → 0 < v
-    decided-positive i v e =
-        let m = means-at f l new i (said.Decided v) e in
-        omega (arith, m .written, owner-writes (m .attempt) (reached-at f l new (rowDepartment (m .attempt)) i .shows) (owned-at f l new i) (m .answer .may .used) (m .answer .writing))
 
     pub agreement : (d : Department) (i j u v : ℕ) → DecidedIn f l d u i → DecidedIn f l d v j → u ≡ v
     agreement d i j u v e g =
@@ -167,12 +169,14 @@ module _ (f : Floor) (l : List (List ℕ)) where
         let m = means-at f l new i (said.Decided v) e in
         (rowAt (floorAt f l i) (m .attempt) .station, decides-at i _ v (m .attempt) (m .box) (m .answer .command) (m .answer .may .used) refl e)
 
-    pub shown-decided : (s i : ℕ) → 0 < shownAt f l s i → Before (DecidesAt f l s (shownAt f l s i)) i
+    pub shown-decided : (s i v : ℕ) → shownAt f l s i ≡ Revision v → Before (DecidesAt f l s v) i
     unfolding floorAt stepOf
-    shown-decided s zero h = absurd (omega (arith, ap (λ (x : Station). x .decided) (new .stations s)))
-    shown-decided s (suc i) h = elim (decided-from (floorAt f l i) (commandAt l i) s) [
-      | inl e ↦ subst (λ (v : ℕ). Before (DecidesAt f l s v) (suc i)) (sym e) (later (shown-decided s i (omega arith)))
-      | inr d ↦ now i (decides-at i s _ (d .attempt) (d .box) (d .command) (d .used) (d .owner) (d .outcome))
+    shown-decided s zero v h = clash (ap (λ (x : Station). isNone (x .decided)) (new .stations s)) (ap isNone h)
+    shown-decided s (suc i) v h = elim (decided-from (floorAt f l i) (commandAt l i) s) [
+      | inl e ↦ later (shown-decided s i v (sym e ∙ h))
+      | inr d ↦ (
+          let q : d .revision ≡ v = cc (d .decision, h) in
+          now i (decides-at i s v (d .attempt) (d .box) (d .command) (d .used) (d .owner) (d .outcome ∙ ap said.Decided q)))
     ]
 
     -- the step by which the station s decides v: its row, and the station after it
@@ -180,7 +184,7 @@ module _ (f : Floor) (l : List (List ℕ)) where
       pub row : ℕ
       pub used : InUse (floorAt f l i) row
       pub owner : rowAt (floorAt f l i) row .station ≡ s
-      pub settled : stationAt (floorAt f l (suc i)) s ≡ record { department = departmentAt (floorAt f l i) s; state = Decided row; last = stationAt (floorAt f l i) s .last; decided = v }
+      pub settled : stationAt (floorAt f l (suc i)) s ≡ record { department = departmentAt (floorAt f l i) s; state = Decided row; last = stationAt (floorAt f l i) s .last; decided = Revision v }
 
     pub decider-at : (s v i : ℕ) → DecidesAt f l s v i → Decider s v i
     decider-at s v i d =
@@ -192,22 +196,22 @@ module _ (f : Floor) (l : List (List ℕ)) where
           row = m .attempt;
           used = m .answer .may .used;
           owner = q;
-          settled = subst (λ (j : ℕ). stationAt (floorAt f l (suc i)) j ≡ record { department = departmentAt (floorAt f l i) j; state = Decided (m .attempt); last = stationAt (floorAt f l i) j .last; decided = v }) q
-              (m .owner ∙ ap (λ (u : ℕ). record { department = departmentAt (floorAt f l i) (rowAt (floorAt f l i) (m .attempt) .station); state = Decided (m .attempt); last = stationAt (floorAt f l i) (rowAt (floorAt f l i) (m .attempt) .station) .last; decided = u }) (sym (m .written)));
+          settled = subst (λ (j : ℕ). stationAt (floorAt f l (suc i)) j ≡ record { department = departmentAt (floorAt f l i) j; state = Decided (m .attempt); last = stationAt (floorAt f l i) j .last; decided = Revision v }) q
+              (m .owner ∙ ap (λ (u : ℕ). record { department = departmentAt (floorAt f l i) (rowAt (floorAt f l i) (m .attempt) .station); state = Decided (m .attempt); last = stationAt (floorAt f l i) (rowAt (floorAt f l i) (m .attempt) .station) .last; decided = Revision u }) (sym (m .written)));
         }
 
     -- a station that decided shows a revision at once, and from then on
-    shown-now : (s v i : ℕ) → DecidesAt f l s v i → shownAt f l s (suc i) ≡ v
+    shown-now : (s v i : ℕ) → DecidesAt f l s v i → shownAt f l s (suc i) ≡ Revision v
     shown-now s v i d = ap (λ (x : Station). x .decided) (decider-at s v i d .settled)
 
-    pub shown-still : (s v k i : ℕ) → DecidesAt f l s v k → k < i → 0 < shownAt f l s i
+    pub shown-still : (s v k i : ℕ) → DecidesAt f l s v k → k < i → (u : ℕ) × (shownAt f l s i ≡ Revision u)
     unfolding floorAt stepOf
     shown-still s v k zero d h = absurd (omega arith)
     shown-still s v k (suc i) d h = elim (up-to h) [
-      | inl q ↦ omega (arith, shown-now s v i (subst (DecidesAt f l s v) q d), decided-positive k v (d .accepted))
+      | inl q ↦ (v, shown-now s v i (subst (DecidesAt f l s v) q d))
       | inr q ↦ elim (decided-from (floorAt f l i) (commandAt l i) s) [
-        | inl e ↦ omega (arith, shown-still s v k i d q)
-        | inr x ↦ decided-positive i _ (x .outcome)
+        | inl e ↦ (let y = shown-still s v k i d q in (y .0, e ∙ y .1))
+        | inr x ↦ (x .revision, x .decision)
       ]
     ]
 
@@ -218,7 +222,7 @@ module _ (f : Floor) (l : List (List ℕ)) where
     pub shown : (s i : ℕ) → ShownAt f l s i
     shown s i = record {
       decided = shown-decided s i;
-      none = λ e v x. omega (arith, shown-still s v (x .at) i (x .holds) (x .earlier));
+      none = λ e v x. clash (ap isNone e) (ap isNone (shown-still s v (x .at) i (x .holds) (x .earlier) .1));
     }
 
     pub safety : (d : Department) → Safety f l d

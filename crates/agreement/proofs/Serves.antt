@@ -1,6 +1,6 @@
 -- A serve is a step of the theory, and the floor after it shows the history with it.
 use Prim.Native.Nat.{ℕ, suc, _≤_, _<_}
-use native.Mathlib.Nat.{le-refl, max-eq-right}
+use native.Mathlib.Nat.{max-eq-right}
 use native.Mathlib.Omega.{arith}
 use mathlib.Core.Path.{_≡_, refl, sym, ap, _∙_}
 use mathlib.Core.Logic.{_⊎_, inl, inr}
@@ -26,7 +26,7 @@ use Rattle.requests.specs.declared.Phase.the-variants.{Read, Write}
 use Rattle.requests.specs.declared.Slot.{Slot}
 use Rattle.requests.specs.declared.Requests.{Requests}
 use Rattle.attempts.specs.Rows.{answer0, rowDepartment, withRequests, answerOf}
-use Rattle.floor.specs.Floors.{boxAt, stationAt, rowAt, departmentAt, InUse, withRegister, withRow}
+use Rattle.floor.specs.Floors.{boxAt, stationAt, rowAt, departmentAt, withRegister, withRow}
 use Rattle.floor.proofs.UseLaws.{in-use-most}
 use Rattle.floor.specs.Claims.{Sound, Lengths, CanServe}
 use Rattle.requests.specs.declared.Stage.the-variants.{Answered}
@@ -38,7 +38,7 @@ use Rattle.requests.proofs.Standings.{waits-means}
 use Rattle.floor.specs.Effects.{servedBy, afterServe}
 use Rattle.base.proofs.Stores.{set-all, set-in}
 use Rattle.agreement.proofs.Edits.{edit-set}
-use Rattle.agreement.proofs.History.{UsedBy, Happening, History, Offered, toBox, registersOf, writerOf, isAnswered, isIssued, Paired, RowShows, StationShows, station-kept-by, Shows, reads-more, writes-more, shows-stored}
+use Rattle.agreement.proofs.History.{UsedBy, Happening, History, Offered, toBox, registersOf, writerOf, isAnswered, isIssued, isWritten, served-written, RowShows, StationShows, station-kept-by, Shows, reads-more, writes-more, shows-stored}
 
 -- In the department d, from the floor f with the history l to the floor g with the event e.
 pub record StepTo (d : Department) (f : Floor) (l : History) (g : Floor) (e : Happening) : Type 0 where
@@ -57,14 +57,8 @@ box-edit d f b x h y g e j = elim (edit-set box0 (f .boxes) b x (omega (arith, y
   | other p q ↦ other p (ap (seen d) q)
 ]
 
-abbrev BoxPaired : Department → StorageBox → Type 0
-BoxPaired d x = Paired (registerOf d x .write) (registerOf d x .value)
-
-pub boxes-paired : {d : Department} {f : Floor} {l : History} → Shows d f l → (b : ℕ) (x : StorageBox) → BoxPaired d x → (j : ℕ) → BoxPaired d (getD (set (f .boxes) b x) j box0)
-boxes-paired {d} {f} s b x p = set-all box0 (λ (j : ℕ) (c : StorageBox). BoxPaired d c) (f .boxes) b x (s .paired) p
-
--- a row is stored that has the same station and has written as much: the stations stay where they are
-pub stations-kept : {d : Department} {f : Floor} {l : History} → Shows d f l → (a : ℕ) (w : Row) → w .station ≡ rowAt f a .station → w .written ≡ rowAt f a .written → (j : ℕ)
+-- a row is stored that has the same station, and whose write was issued where it was before: the stations stay where they are
+pub stations-kept : {d : Department} {f : Floor} {l : History} → Shows d f l → (a : ℕ) (w : Row) → w .station ≡ rowAt f a .station → isWritten (w .write) ≡ isWritten (rowAt f a .write) → (j : ℕ)
     → departmentAt f j ≡ d → StationShows (UsedBy d f) (set (f .rows) a w) j (stationAt f j .decided) (stationAt f j .state)
 stations-kept {d} {f} s a w p q j e =
     station-kept-by (UsedBy d f) (UsedBy d f) (f .rows) a w j (stationAt f j .decided) (λ i h. h) (stationAt f j .state) (λ _ _ h. (p ∙ h, q)) (s .stations j e)
@@ -116,9 +110,6 @@ module _ {f : Floor} {l : History} (a b : ℕ) (s : Shows (rowDepartment a) f l)
   -- the box with the record that the routine left
   abbrev after : Register → StorageBox
   after r = boxWith own (boxAt f b) r (boxAt f b .stopped)
-
-  stored-paired : (r : Register) → Paired (r .write) (r .value) → BoxPaired own (after r)
-  stored-paired r p = rw (box-own own (boxAt f b) r (boxAt f b .stopped)) p
 
   module _ (d : CanServe f Read a b) where
     abbrev asked : ℕ
@@ -176,11 +167,10 @@ module _ {f : Floor} {l : History} (a b : ℕ) (s : Shows (rowDepartment a) f l)
       slots : length (rowAt f a .read .slots) ≡ 9
       slots = y .slots Read a (in-use-most f z a (d .used))
 
-      asked-row : Paired (rankIn (x .answer)) (valueIn (x .answer)) → RowShows (rowAsked x) (now ∷ l)
-      asked-row p = let r = s .rows a (refl, d .used) in record {
+      asked-row : RowShows (rowAsked x) (now ∷ l)
+      asked-row = let r = s .rows a (refl, d .used) in record {
         positive = r .positive;
         place = r .place;
-        revision = r .revision;
         offer = List·Memᴰ·tail (r .offer);
         reads = record {
           received = set-all slot0 (λ (j : ℕ) (i : Slot). heardFrom (rowAt f a .read) j ≡ true → isAnswered (i .stage) ≡ true) (rowAt f a .read .slots) b (slotAsked x)
@@ -189,27 +179,26 @@ module _ {f : Floor} {l : History} (a b : ℕ) (s : Shows (rowDepartment a) f l)
               (omega (arith, slots, d .box, z .box-most)) answer-before (λ _. answer-now);
           told = set-all slot0 (λ (j : ℕ) (i : Slot). isAnswered (i .stage) ≡ true → i .ok ≡ false → List·Memᴰ (nack asked j) (now ∷ l)) (rowAt f a .read .slots) b (slotAsked x)
               (λ j h e. List·Memᴰ·tail (r .reads .told j h e)) (λ _. told (x .answer));
-          paired = set-all answer0 (λ (j : ℕ) (i : Answer). Paired (i .rank) (i .value)) (rowAt f a .answers) b (answerOf x) (r .reads .paired) p;
         };
         writes = writes-more now (λ q. omega (arith, silent (x .answer))) (r .writes);
       }
 
-      asked-shows : Paired (rankIn (x .answer)) (valueIn (x .answer)) → Paired (x .register .write) (x .register .value) → Shows own (floorAsked x) (now ∷ l)
-      asked-shows p q =
-          shows-stored s now _ (f .stations) (boxes-paired s b (after (x .register)) (stored-paired (x .register) q)) (λ j. (refl, refl))
-          y a (refl, d .used) (in-use-most f z a (d .used)) _ refl (λ r e. absurd (omega (arith, silent (x .answer)))) (asked-row p) (stations-kept s a _ refl refl)
+      asked-shows : Shows own (floorAsked x) (now ∷ l)
+      asked-shows =
+          shows-stored s now _ (f .stations) (λ j. (refl, refl))
+          y a (refl, d .used) (in-use-most f z a (d .used)) _ refl (λ r e. absurd (omega (arith, silent (x .answer)))) asked-row (stations-kept s a _ refl refl)
 
     serve-asked : {x : ReadDone} → ReadCase held asked x → StepTo own f l (floorAsked x) (askedEvent (x .answer) asked b)
     serve-asked (outranked h) = record {
       step = serve-nack (set-all box0 (λ (j : ℕ) (c : StorageBox). seen own c ≡ registersOf own f j) (f .boxes) b (after held) (λ j. refl)
           (ap toBox (box-own own (boxAt f b) held (boxAt f b .stopped)))) h;
-      shows = asked-shows (record { register = held; answer = Outranked }) (λ _. refl, λ h. h) (s .paired b);
+      shows = asked-shows (record { register = held; answer = Outranked });
     }
     serve-asked (answered h k) = let got : Register = record { read = asked; write = held .write; value = held .value } in record {
       step = serve-read (box-edit own f b (after got) (omega (arith, d .box, z .box-most)) y (readBox asked)
           (ap toBox (box-own own (boxAt f b) got (boxAt f b .stopped))
           ∙ ap (λ (i : ℕ). record { readRank = i; writeRank = held .write; value = held .value }) (sym (max-eq-right h)))) refl refl;
-      shows = asked-shows (record { register = got; answer = Held (held .write) (held .value) }) (s .paired b) (s .paired b);
+      shows = asked-shows (record { register = got; answer = Held (held .write) (held .value) });
     }
 
     read-step : StepTo own f l (afterServe f Read a b) (readEvent f a b)
@@ -222,7 +211,7 @@ module _ {f : Floor} {l : History} (a b : ℕ) (s : Shows (rowDepartment a) f l)
     abbrev requests : Requests
     requests = rowAt f a .write
 
-    issued-then : 0 < rowAt f a .written
+    issued-then : isWritten requests ≡ true
     issued-then = s .rows a (refl, d .used) .writes .after-issue b (ap isIssued (waits-means (slotAt requests b .stage) (requests .heard) b (d .waits) .0))
 
     not-answered : isAnswered (slotAt requests b .stage) ≡ false
@@ -231,19 +220,22 @@ module _ {f : Floor} {l : History} (a b : ℕ) (s : Shows (rowDepartment a) f l)
     abbrev slot : Bool → Slot
     slot t = record { stage = Answered; ok = t }
 
+    -- it was issued, and stays so
+    still-written : (t : Bool) → isWritten (servedAt requests b t) ≡ true
+    still-written t = served-written requests b t issued-then
+
     write-row : (t : Bool) → RowShows (withRequests Write (rowAt f a) (servedAt requests b t)) (wroteEvent t rank b ∷ l)
     write-row t = let r = s .rows a (refl, d .used) in record {
       positive = r .positive;
       place = r .place;
-      revision = r .revision;
       offer = List·Memᴰ·tail (r .offer);
       reads = reads-more (wroteEvent t rank b) (r .reads);
       writes = record {
         received = set-all slot0 (λ (j : ℕ) (x : Slot). heardFrom requests j ≡ true → isAnswered (x .stage) ≡ true) (requests .slots) b (slot t)
             (r .writes .received) (λ _. refl);
-        after-issue = λ _ _. issued-then;
-        issue = λ h. List·Memᴰ·tail (r .writes .issue h);
-        unwritten = λ h. absurd (omega (arith, issued-then));
+        after-issue = λ _ _. still-written t;
+        issue = λ _. List·Memᴰ·tail (r .writes .issue issued-then);
+        unwritten = λ h. clash (still-written t) h;
         taken = set-all slot0 (λ (j : ℕ) (x : Slot). isAnswered (x .stage) ≡ true → x .ok ≡ true → List·Memᴰ (took rank j) (wroteEvent t rank b ∷ l)) (requests .slots) b (slot t)
             (λ j h e. List·Memᴰ·tail (r .writes .taken j h e)) (λ _ e. List·Memᴰ·head (ap (λ (x : Bool). wroteEvent x rank b) (sym e)));
         refusal = set-all slot0 (λ (j : ℕ) (x : Slot). isAnswered (x .stage) ≡ true → x .ok ≡ false → List·Memᴰ (refused rank j) (wroteEvent t rank b ∷ l)) (requests .slots) b (slot t)
@@ -259,21 +251,22 @@ module _ {f : Floor} {l : History} (a b : ℕ) (s : Shows (rowDepartment a) f l)
     abbrev served : WriteDone → Floor
     served w = withRow (withRegister own f b (w .register)) a (withRequests Write (rowAt f a) (servedAt requests b (w .taken)))
 
-    served-shows : (w : WriteDone) → Paired (w .register .write) (w .register .value) → Shows own (served w) (wroteEvent (w .taken) rank b ∷ l)
-    served-shows w p =
-        shows-stored s (wroteEvent (w .taken) rank b) _ (f .stations) (boxes-paired s b (after (w .register)) (stored-paired (w .register) p)) (λ j. (refl, refl))
-        y a (refl, d .used) (in-use-most f z a (d .used)) _ refl (wrote-own (w .taken) rank b) (write-row (w .taken)) (stations-kept s a _ refl refl)
+    served-shows : (w : WriteDone) → Shows own (served w) (wroteEvent (w .taken) rank b ∷ l)
+    served-shows w =
+        shows-stored s (wroteEvent (w .taken) rank b) _ (f .stations) (λ j. (refl, refl))
+        y a (refl, d .used) (in-use-most f z a (d .used)) _ refl (wrote-own (w .taken) rank b) (write-row (w .taken))
+        (stations-kept s a _ refl (still-written (w .taken) ∙ sym issued-then))
 
     serve-write : {w : WriteDone} → Written held rank (rowAt f a .written) w → StepTo own f l (served w) (wroteEvent (w .taken) rank b)
     serve-write (stored p q) = let got : Register = record { read = held .read; write = rank; value = rowAt f a .written } in record {
       step = take (s .rows a (refl, d .used) .writes .issue issued-then) p q
           (box-edit own f b (after got) (omega (arith, d .box, z .box-most)) y (writeBox rank (rowAt f a .written)) (ap toBox (box-own own (boxAt f b) got (boxAt f b .stopped))));
-      shows = served-shows _ (λ e. absurd (omega (arith, s .rows a (refl, d .used) .positive)), λ _. issued-then);
+      shows = served-shows _;
     }
     serve-write (kept h) = record {
       step = refuse (set-all box0 (λ (j : ℕ) (x : StorageBox). seen own x ≡ registersOf own f j) (f .boxes) b (after held) (λ j. refl)
           (ap toBox (box-own own (boxAt f b) held (boxAt f b .stopped)))) h;
-      shows = served-shows (record { register = held; taken = false }) (s .paired b);
+      shows = served-shows (record { register = held; taken = false });
     }
 
     write-step : StepTo own f l (afterServe f Write a b) (writeEvent f a b)

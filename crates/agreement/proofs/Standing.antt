@@ -31,7 +31,7 @@ use Rattle.floor.specs.declared.Floor.{Floor}
 use Rattle.commands.specs.declared.Outcome.{Outcome}
 use Rattle.commands.specs.declared.Outcome.the-variants as said
 use Rattle.base.proofs.Cases.{clash, by-cases, up-to}
-use Rattle.floor.proofs.Keeps.{step-keeps, step-sizes}
+use Rattle.floor.proofs.Keeps.{step-sizes}
 use Rattle.floor.proofs.RowLaws.{apply-share}
 use Rattle.floor.proofs.BoxLaws.{stopped-stays, stopped-from}
 use Rattle.floor.proofs.StationLaws.{department-stays, gone-from, active-from}
@@ -71,16 +71,11 @@ begun-some d (said.Gone s) e = clash e refl
 begun-some d (said.Refused k) e = clash e refl
 
 module _ (f : Floor) (l : List (List ℕ)) (new : New f) where
-  -- the number of stations stays, and a sound floor stays sound
+  -- the number of stations stays
   pub stations-at : (i : ℕ) → floorAt f l i .m ≡ f .m
   unfolding floorAt
   stations-at zero = refl
   stations-at (suc i) = step-sizes (floorAt f l i) (getD l i []) .stations ∙ stations-at i
-
-  pub sound-at : Sound f → (i : ℕ) → Sound (floorAt f l i)
-  unfolding floorAt
-  sound-at z zero = z
-  sound-at z (suc i) = step-keeps (floorAt f l i) (getD l i []) (sound-at z i)
 
   -- a station keeps its department, and its attempts are of it
   pub department-at : (s i : ℕ) → departmentAt (floorAt f l i) s ≡ departmentAt f s
@@ -201,9 +196,9 @@ module _ (f : Floor) (l : List (List ℕ)) (new : New f) where
     idle-as (Reading a) e = absurd (in-none a (ap (λ (p : State). isActive p a) e ∙ eq-eqb a a refl))
     idle-as (Writing a) e = absurd (in-none a (ap (λ (p : State). isActive p a) e ∙ eq-eqb a a refl))
     idle-as (Decided a) e =
-        absurd (idle .undecided _ (shown-decided f l new s i
-        (subst (StationShows (UsedBy (departmentAt (floorAt f l i) s) (floorAt f l i)) (floorAt f l i .rows) s (stationAt (floorAt f l i) s .decided)) e
-        (reached-at f l new (departmentAt (floorAt f l i) s) i .shows .stations s refl))))
+        let y = subst (StationShows (UsedBy (departmentAt (floorAt f l i) s) (floorAt f l i)) (floorAt f l i .rows) s (stationAt (floorAt f l i) s .decided)) e
+        (reached-at f l new (departmentAt (floorAt f l i) s) i .shows .stations s refl) in
+        absurd (idle .undecided (y .0) (shown-decided f l new s i (y .0) (y .1)))
     idle-as Gone e = absurd (idle .here (gone-before s i (ap isGone e)))
 
     pub idle-state : stationAt (floorAt f l i) s .state ≡ Idle

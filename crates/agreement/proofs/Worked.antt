@@ -22,6 +22,7 @@ use Rattle.base.specs.Departments.{departmentsWrong, notDepartments, notDepartm
 use Rattle.register.specs.declared.Department.the-variants.{Sails, Canvas}
 use Rattle.floor.specs.Sound.{stationsBelow, shareSound, soundOf}
 use Rattle.floor.specs.Floors.{departmentAt, usedOf, InUse, departmentFrom, stationsTold, newFloorOf}
+use Rattle.attempts.specs.declared.Decision.the-variants.{None, Revision}
 use Rattle.floor.specs.declared.Floor.{Floor}
 use Rattle.attempts.proofs.RowDepartments.{sails-row}
 use Rattle.floor.proofs.UseLaws.{of-use}
@@ -38,7 +39,7 @@ use Rattle.solo.specs.Solo.{soloOf}
 use Rattle.agreement.specs.Words.{commandAt, Attempt, ServedAt, DecidesAt, AbortsAt, OutrankedAt, shownAt, IdleAt, attemptsBefore, unused}
 use Rattle.floor.specs.Runs.{floorAt, floorLeft, saidAt}
 use Rattle.agreement.specs.Demand.{DrivenAlone}
-use Rattle.agreement.specs.Worked.{single, one, exampleI, stops, outrankedRead, both, two, three, five, heldAt, heldFor, Worked}
+use Rattle.agreement.specs.Worked.{single, one, exampleI, stops, outrankedRead, both, two, withdrawn, pair, three, five, heldAt, heldFor, Worked}
 use Rattle.agreement.proofs.GivenBack.{given-back}
 use Rattle.agreement.proofs.Demand.{demand3}
 use Rattle.agreement.proofs.Consequences.{consequences}
@@ -75,8 +76,8 @@ record Computed : Type 0 where
   aborted : saidAt three exampleI 17 ≡ said.Aborted 0
   malformed : saidAt three exampleI 19 ≡ said.Refused 7
   over : saidAt three exampleI 20 ≡ said.Refused 10
-  shown : shownAt three exampleI 1 (length exampleI) ≡ 9
-  none : shownAt three exampleI 0 (length exampleI) ≡ 0
+  shown : shownAt three exampleI 1 (length exampleI) ≡ Revision 9
+  none : shownAt three exampleI 0 (length exampleI) ≡ None
   attempts : attemptsBefore three exampleI Sails (length exampleI) ≡ 2
   -- the read of attempt 1 is served at box 1
   asked : commandAt exampleI 6 ≡ Serve Read 1 1
@@ -94,6 +95,10 @@ record Computed : Type 0 where
   first-decided : saidAt two both 8 ≡ said.Decided 7
   second-decided : saidAt two both 9 ≡ said.Decided 9
   both-held : (heldFor Sails ≡ 7) × (heldFor Canvas ≡ 9)
+  undecided : shownAt pair withdrawn 0 4 ≡ None
+  withdrawn-decided : (saidAt pair withdrawn 4 ≡ said.Decided 0) × (shownAt pair withdrawn 0 5 ≡ Revision 0)
+  withdrawn-again : (saidAt pair withdrawn 7 ≡ said.WriteIssued 0) × (saidAt pair withdrawn 9 ≡ said.Decided 0)
+  withdrawn-over : saidAt pair withdrawn 10 ≡ said.Refused 10
   begun-none : attemptsBefore five stops Sails 2 ≡ 0
   -- behind example I: boxes 1 and 2 hold the revision of attempt 1, and box 0 that of attempt 0
   first : (commandAt exampleI 0 ≡ Begin 0 1 7) × (saidAt three exampleI 0 ≡ said.Begun 0)
@@ -127,6 +132,10 @@ computed = record {
   first-decided = refl;
   second-decided = refl;
   both-held = (refl, refl);
+  undecided = refl;
+  withdrawn-decided = (refl, refl);
+  withdrawn-again = (refl, refl);
+  withdrawn-over = refl;
   begun-none = refl;
   first = (refl, refl);
   abort = refl;
@@ -173,8 +182,8 @@ no-attempt : (x : Attempt five stops) → ¬ (x .at < 2)
 no-attempt x h = let e = only-stops (x .at) _ h (x .begun) .2 in let z : _≡_ {A = ℕ} 0 1 = cc in omega arith
 
 -- with 2 of 5 boxes stopped, whatever revision station 0 offers
-alone : (v : ℕ) → 0 < v → v < 4294967296 → DrivenAlone five stops 0 v (soloOf (floorLeft five stops) 0 v)
-alone v p q =
+alone : (v : ℕ) → v < 4294967296 → DrivenAlone five stops 0 v (soloOf (floorLeft five stops) 0 v)
+alone v q =
     demand3 5 1 (0 ∷ []) stops .solo 0 v (omega (arith, computed .sizes .1)) idle
     (record {
       set = unstopped;
@@ -183,10 +192,10 @@ alone v p q =
     })
     (unused (rw (computed .sails .0) (omega (arith, computed .begun-none))))
     (record { round = 1; least = omega arith; most = omega arith; outranks = λ x h _. absurd (no-attempt x h) })
-    p q
+    q
 
-thirteen : (v : ℕ) → 0 < v → v < 4294967296 → soloOf (floorLeft five stops) 0 v .steps ≡ 13
-thirteen v p q = omega (arith, alone v p q .count, computed .sizes .0)
+thirteen : (v : ℕ) → v < 4294967296 → soloOf (floorLeft five stops) 0 v .steps ≡ 13
+thirteen v q = omega (arith, alone v q .count, computed .sizes .0)
 
 -- Behind example I, where it is hard: station 0 is idle after its abort, and the boxes hold revisions, two of them another's.
 noted-upto : (n k : ℕ) → asExpected n ≡ true → k < n → noted (saidAt three exampleI k) ≡ expected k
@@ -256,8 +265,8 @@ idle-behind = record {
 }
 
 -- whatever revision it offers
-alone-behind : (v : ℕ) → 0 < v → v < 4294967296 → DrivenAlone three exampleI 0 v (soloOf (floorLeft three exampleI) 0 v)
-alone-behind v p q =
+alone-behind : (v : ℕ) → v < 4294967296 → DrivenAlone three exampleI 0 v (soloOf (floorLeft three exampleI) 0 v)
+alone-behind v q =
     demand3 3 2 (0 ∷ 0 ∷ []) exampleI .solo 0 v (omega (arith, computed .all .1)) idle-behind
     (record { set = λ b. true; large = rw (computed .all .0) (omega (arith, computed .all .2)); each = λ b h t x. nobody-left (x .at) (x .earlier) (said.Stopped b) refl (x .holds) })
     (unused (rw (computed .sails .1) (omega (arith, computed .attempts))))
@@ -267,7 +276,7 @@ alone-behind v p q =
       most = omega arith;
       outranks = λ x h _. elim (attempt-is x h) [ inl o ↦ omega (arith, o .2, o .3) | inr o ↦ omega (arith, o .2, o .3) ];
     })
-    p q
+    q
 
 in-sails : (f : Floor) → 0 < usedOf f Sails → InUse f 0
 in-sails f h = of-use f Sails 0 (sails-row 0 (omega arith)) (omega arith)
@@ -284,6 +293,10 @@ worked = record {
   first-decided = computed .first-decided;
   second-decided = computed .second-decided;
   both-held = computed .both-held;
+  undecided = computed .undecided;
+  withdrawn-decided = computed .withdrawn-decided;
+  withdrawn-again = computed .withdrawn-again;
+  withdrawn-over = computed .withdrawn-over;
   alone = alone;
   thirteen = thirteen;
   idle-behind = idle-behind;

@@ -8,6 +8,7 @@ use lib.ListN.{length}
 use Rattle.commands.specs.Outcomes.{isRefused}
 use Rattle.commands.specs.declared.Command.the-variants.{Begin}
 use Rattle.commands.specs.declared.Outcome.the-variants as said
+use Rattle.attempts.specs.declared.Decision.the-variants.{Revision}
 use Rattle.agreement.specs.Words.{commandAt, DecidesAt, shownAt}
 use Rattle.floor.specs.Runs.{saidAt}
 use Rattle.floor.specs.declared.Floor.{Floor}
@@ -17,8 +18,8 @@ pub record Consequences (f : Floor) (l : List (List ℕ)) : Type 0 where
   pub inside : (i : ℕ) → isRefused (saidAt f l i) ≡ false → i < length l
   -- what is decided is decided by a station
   pub station : (i v : ℕ) → saidAt f l i ≡ said.Decided v → (s : ℕ) × (s < f .m) × DecidesAt f l s v i
-  -- the decided revision that the floor shows for a station never changes
-  pub stays : (s v k i : ℕ) → DecidesAt f l s v k → k < i → shownAt f l s i ≡ v
-  -- "each station keeps its own, and begins nothing after deciding": such a begin is refused with 9 or 10
+  -- what a station decided, 0 too, the floor shows from then on
+  pub stays : (s v k i : ℕ) → DecidesAt f l s v k → k < i → shownAt f l s i ≡ Revision v
+  -- "each station keeps its own, and begins nothing after deciding", whatever it decided: such a begin is refused with 9 or 10
   pub over : (s v k i round u : ℕ) → DecidesAt f l s v k → k < i → commandAt l i ≡ Begin s round u
       → (saidAt f l i ≡ said.Refused 9) ⊎ (saidAt f l i ≡ said.Refused 10)

@@ -66,14 +66,13 @@ pub record Demand3 (f : Floor) (l : List (List ℕ)) : Type 0 where
   -- "On any floor so reached, given q answering boxes, q being a majority of all boxes, fewer than 64 attempts, and a round left that
   -- outranks every attempt begun, an idle station driven alone, whatever revision it offers, decides in exactly 4q + 1 steps." Wish 5 of
   -- document 02 has "an unused or free row" for "fewer than 64 attempts"; wish 6: rows and attempts of its department. A revision is "a
-  -- 32-bit number other than 0".
+  -- 32-bit number"; wish 7: "zero becomes a revision".
   pub solo : (s v : ℕ)
       → s < f .m
       → IdleAt f l s (length l)
       → AtLeast (quorum (f .n)) (f .n) (Answering f l (length l))
       → RowLeft f l (departmentAt f s) (length l)
       → RoundLeft f l (departmentAt f s) s (length l)
-      → 0 < v
       → v < 4294967296
       → DrivenAlone f l s v (soloOf (floorLeft f l) s v)
 

@@ -4,6 +4,8 @@ use mathlib.Core.Path.{_≡_}
 use mathlib.Core.List.{List}
 use lib.ListN.{take}
 use Rattle.register.specs.declared.Department.{Department}
+use Rattle.attempts.specs.declared.Decision.{Decision}
+use Rattle.attempts.specs.declared.Decision.the-variants.{Revision}
 use Rattle.floor.specs.Floors.{stationAt, departmentAt}
 use Rattle.floor.specs.declared.Floor.{Floor}
 use Rattle.drill_file.specs.DrillFile.{boxesOf, stationsOf, recordsOf}
@@ -11,8 +13,8 @@ use Rattle.player.specs.Play.{toldIn, playedOf}
 use Rattle.agreement.specs.Words.{OfferedAt}
 use Rattle.agreement.specs.Demand.{firstFloor}
 
--- the decided revision of the station t, 0 for none, after the file was played
-abbrev pub decidedIn : (file : List ℕ) (t : ℕ) → ℕ
+-- the decided revision of the station t, or that there is none, after the file was played
+abbrev pub decidedIn : (file : List ℕ) (t : ℕ) → Decision
 decidedIn file t = stationAt (playedOf file .floor) t .decided
 
 -- the new floor that the file is played on, and the department of the station t there
@@ -29,7 +31,7 @@ acceptedIn file = take (playedOf file .accepted) (recordsOf file)
 -- of every file, refused ones too. The proof is `played-file` in proofs/Files.
 pub record PlayedFile (s : List ℕ) : Type 0 where
   -- "any two stations that decided have decided the same revision", where they are of one department
-  pub agreement : (t u : ℕ) → departmentIn s t ≡ departmentIn s u → 0 < decidedIn s t → 0 < decidedIn s u → decidedIn s t ≡ decidedIn s u
+  pub agreement : (t u v w : ℕ) → departmentIn s t ≡ departmentIn s u → decidedIn s t ≡ Revision v → decidedIn s u ≡ Revision w → v ≡ w
   -- "each decided revision was offered by a station": by a begin among the accepted records
-  pub validity : (t : ℕ) → 0 < decidedIn s t
-      → (i : ℕ) × (i < playedOf s .accepted) × OfferedAt (startOf s) (acceptedIn s) (departmentIn s t) (decidedIn s t) i
+  pub validity : (t v : ℕ) → decidedIn s t ≡ Revision v
+      → (i : ℕ) × (i < playedOf s .accepted) × OfferedAt (startOf s) (acceptedIn s) (departmentIn s t) v i

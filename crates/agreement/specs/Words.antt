@@ -11,6 +11,8 @@ use Rattle.base.specs.Quorum.{count}
 use Rattle.register.specs.Register.{isOf}
 use Rattle.register.specs.declared.Department.{Department}
 use Rattle.attempts.specs.Rows.{rowDepartment}
+use Rattle.attempts.specs.declared.Decision.{Decision}
+use Rattle.attempts.specs.declared.Decision.the-variants.{None, Revision}
 use Rattle.requests.specs.declared.Phase.{Phase}
 use Rattle.requests.specs.declared.Phase.the-variants.{Read, Write}
 use Rattle.floor.specs.Floors.{stationAt}
@@ -123,14 +125,15 @@ module _ (f : Floor) (l : List (List ℕ)) where
     pub higher : attemptRank attempt < rank
     pub served : Before (ServedAt (attemptDepartment attempt) rank box) i
 
-  -- the decided revision that the floor before the step at i shows for the station s, 0 for none
-  abbrev pub shownAt : (s i : ℕ) → ℕ
+  -- the decided revision that the floor before the step at i shows for the station s, or that there is none. Wish 7 of document 02: "A
+  -- station keeps whether it decided", so that revision 0 is not none.
+  abbrev pub shownAt : (s i : ℕ) → Decision
   shownAt s i = stationAt (floorAt f l i) s .decided
 
   -- "The decided revision that the floor shows for a station is the one so said, and none only where none was said."
   pub record ShownAt (s i : ℕ) : Type 0 where
-    pub decided : 0 < shownAt s i → Before (DecidesAt s (shownAt s i)) i
-    pub none : shownAt s i ≡ 0 → (v : ℕ) → ¬ Before (DecidesAt s v) i
+    pub decided : (v : ℕ) → shownAt s i ≡ Revision v → Before (DecidesAt s v) i
+    pub none : shownAt s i ≡ None → (v : ℕ) → ¬ Before (DecidesAt s v) i
 
   -- What a solo finish is given, before the step at i. "A box answers if no accepted step stopped it."
   abbrev pub Answering : (i b : ℕ) → Type 0

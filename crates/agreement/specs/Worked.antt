@@ -1,5 +1,5 @@
--- Document 01's examples I and J, a read that is outranked, a row that is free, and two departments, in the words of demand 3, so that the claim is not about nothing. The proof
--- is `worked` in proofs/Worked.
+-- Document 01's examples I and J, a read that is outranked, a row that is free, two departments, and a withdrawal, in the words of demand 3,
+-- so that the claim is not about nothing. The proof is `worked` in proofs/Worked.
 use Prim.Native.Nat.{ℕ, _<_}
 use mathlib.Core.Path.{_≡_}
 use mathlib.Core.List.{List, [], _∷_}
@@ -8,13 +8,14 @@ use Rattle.requests.specs.declared.Phase.the-variants.{Read, Write}
 use Rattle.commands.specs.Commands.{encodeOf}
 use Rattle.commands.specs.declared.Command.the-variants.{Begin, Serve, Deliver, Stop}
 use Rattle.commands.specs.declared.Outcome.the-variants as said
+use Rattle.attempts.specs.declared.Decision.the-variants.{None, Revision}
 use Rattle.register.specs.declared.Department.{Department}
 use Rattle.register.specs.declared.Department.the-variants.{Sails, Canvas}
 use Rattle.floor.specs.Floors.{registerAt}
 use Rattle.floor.specs.Runs.{floorLeft, saidAt}
 use Rattle.floor.specs.declared.Floor.{Floor}
 use Rattle.solo.specs.Solo.{soloOf}
-use Rattle.agreement.specs.Words.{commandAt, ServedAt, DecidesAt, OutrankedAt, IdleAt, FreeAt}
+use Rattle.agreement.specs.Words.{commandAt, ServedAt, DecidesAt, OutrankedAt, shownAt, IdleAt, FreeAt}
 use Rattle.agreement.specs.Demand.{firstFloor, DrivenAlone}
 
 -- "I: n = 3. Attempt 0 (rank 16, 7) has read at boxes 0 and 1. Attempt 1 (rank 17, 9) reads and writes at 1 and 2 and decides 9.
@@ -50,7 +51,18 @@ both =
 abbrev pub two : Floor
 two = firstFloor 1 2 (0 ∷ 1 ∷ [])
 
--- what the box holds for a department behind it
+-- Wish 7: station 0 offers revision 0, "do not cut", and decides it; station 1 offers 9, finds it, and decides it too. Behind it, a begin of
+-- the station that decided first.
+abbrev pub withdrawn : List (List ℕ)
+withdrawn =
+    encodeOf (Begin 0 1 0) ∷ encodeOf (Serve Read 0 0) ∷ encodeOf (Deliver Read 0 0) ∷ encodeOf (Serve Write 0 0) ∷ encodeOf (Deliver Write 0 0)
+    ∷ encodeOf (Begin 1 1 9) ∷ encodeOf (Serve Read 1 0) ∷ encodeOf (Deliver Read 1 0) ∷ encodeOf (Serve Write 1 0) ∷ encodeOf (Deliver Write 1 0)
+    ∷ encodeOf (Begin 0 2 5) ∷ []
+
+abbrev pub pair : Floor
+pair = firstFloor 1 2 (0 ∷ 0 ∷ [])
+
+-- what the box holds for a department behind both
 abbrev pub heldFor : (d : Department) → ℕ
 heldFor d = registerAt (floorLeft two both) d 0 .value
 
@@ -82,10 +94,15 @@ pub record Worked : Type 0 where
   pub first-decided : saidAt two both 8 ≡ said.Decided 7
   pub second-decided : saidAt two both 9 ≡ said.Decided 9
   pub both-held : (heldFor Sails ≡ 7) × (heldFor Canvas ≡ 9)
+  -- wish 7: nothing is shown before the withdrawal is decided, then revision 0; the other station decides it again; the first begins nothing after
+  pub undecided : shownAt pair withdrawn 0 4 ≡ None
+  pub withdrawn-decided : (saidAt pair withdrawn 4 ≡ said.Decided 0) × (shownAt pair withdrawn 0 5 ≡ Revision 0)
+  pub withdrawn-again : (saidAt pair withdrawn 7 ≡ said.WriteIssued 0) × (saidAt pair withdrawn 9 ≡ said.Decided 0)
+  pub withdrawn-over : saidAt pair withdrawn 10 ≡ said.Refused 10
   -- J: with 2 of 5 boxes stopped, whatever revision station 0 offers
-  pub alone : (v : ℕ) → 0 < v → v < 4294967296 → DrivenAlone five stops 0 v (soloOf (floorLeft five stops) 0 v)
-  pub thirteen : (v : ℕ) → 0 < v → v < 4294967296 → soloOf (floorLeft five stops) 0 v .steps ≡ 13
+  pub alone : (v : ℕ) → v < 4294967296 → DrivenAlone five stops 0 v (soloOf (floorLeft five stops) 0 v)
+  pub thirteen : (v : ℕ) → v < 4294967296 → soloOf (floorLeft five stops) 0 v .steps ≡ 13
   -- behind I station 0 is idle after its abort, and two of three boxes hold another's revision; whatever it offers
   pub idle-behind : IdleAt three exampleI 0 (length exampleI)
   pub held-behind : (heldAt 0 ≡ 7) × (heldAt 1 ≡ 9) × (heldAt 2 ≡ 9)
-  pub alone-behind : (v : ℕ) → 0 < v → v < 4294967296 → DrivenAlone three exampleI 0 v (soloOf (floorLeft three exampleI) 0 v)
+  pub alone-behind : (v : ℕ) → v < 4294967296 → DrivenAlone three exampleI 0 v (soloOf (floorLeft three exampleI) 0 v)

@@ -67,13 +67,13 @@ module _ (l : List Answer) (m : Requests) where
 
 -- "If that answer holds nothing, it writes its own offer, otherwise that answer's value."
 module _ (x : Best) (offer : ℕ) where
-  pub revision-offer : x .value ≡ 0 → revisionFrom x offer ≡ offer
+  pub revision-offer : x .rank ≡ 0 → revisionFrom x offer ≡ offer
   unfolding revisionFrom
   revision-offer e = sym (on-true _ (eq-eqb _ _ e) refl)
 
-  pub revision-value : 0 < x .value → revisionFrom x offer ≡ x .value
+  pub revision-value : 0 < x .rank → revisionFrom x offer ≡ x .value
   unfolding revisionFrom
-  revision-value h = sym (on-false _ (ne-eqb _ _ (λ (e : x .value ≡ 0). omega arith)) refl)
+  revision-value h = sym (on-false _ (ne-eqb _ _ (λ (e : x .rank ≡ 0). omega arith)) refl)
 
-  pub revision-either : ((x .value ≡ 0) × (revisionFrom x offer ≡ offer)) ⊎ ((0 < x .value) × (revisionFrom x offer ≡ x .value))
-  revision-either = elim (eq-zero-or-pos (x .value)) [ inl e ↦ inl (e, revision-offer e) | inr h ↦ inr (h, revision-value h) ]
+  pub revision-either : ((x .rank ≡ 0) × (revisionFrom x offer ≡ offer)) ⊎ ((0 < x .rank) × (revisionFrom x offer ≡ x .value))
+  revision-either = elim (eq-zero-or-pos (x .rank)) [ inl e ↦ inl (e, revision-offer e) | inr h ↦ inr (h, revision-value h) ]

@@ -26,8 +26,9 @@ pub record AttemptClaims : Type 0 where
   -- "the answer with the highest write rank among the q, of equals the lowest-numbered box's"; at the q-th answer there is one
   pub best : (l : List Answer) (m : Requests) (k : ℕ) → Found l m k (bestOf l m k)
   pub some : (l : List Answer) (m : Requests) (n : ℕ) → atQuorum m n ≡ true → bestOf l m n .found ≡ true
-  -- "If that answer holds nothing, it writes its own offer, otherwise that answer's value."
-  pub revision : (x : Best) (offer : ℕ) → ((x .value ≡ 0) × (revisionFrom x offer ≡ offer)) ⊎ ((0 < x .value) × (revisionFrom x offer ≡ x .value))
+  -- "If that answer holds nothing, it writes its own offer, otherwise that answer's value", whatever these are. Wish 7 of document 02: it
+  -- "holds nothing exactly while its write rank is 0"
+  pub revision : (x : Best) (offer : ℕ) → ((x .rank ≡ 0) × (revisionFrom x offer ≡ offer)) ⊎ ((0 < x .rank) × (revisionFrom x offer ≡ x .value))
   -- "a read request waiting at every box"; "The write .. waits at every box"
   pub reads-wait : (n s round v b : ℕ) → n ≤ 9 → b < n → isWaiting (standingOf (newRow n s round v .read) b) ≡ true
   pub writes-wait : (w : Row) (v n b : ℕ) → n ≤ 9 → b < n → isWaiting (standingOf (issued w v n .write) b) ≡ true

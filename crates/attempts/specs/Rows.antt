@@ -115,9 +115,9 @@ unfoldable pub bestOf : (answers : List Answer) (q : Requests) (k : ℕ) → Bes
 bestOf answers q zero = noBest
 bestOf answers q (suc k) = better (bestOf answers q k) (heardFrom q k) (getD answers k answer0)
 
--- "If that answer holds nothing, it writes its own offer, otherwise that answer's value."
+-- "If that answer holds nothing, it writes its own offer, otherwise that answer's value", which may be revision 0 (wish 7).
 unfoldable pub revisionFrom : (x : Best) (offer : ℕ) → ℕ
-revisionFrom x offer = if holdsNothing (x .value) then offer else x .value
+revisionFrom x offer = if holdsNothing (x .rank) then offer else x .value
 
 unfoldable pub revisionOf : (w : Row) (n : ℕ) → ℕ
 revisionOf w n = revisionFrom (bestOf (w .answers) (w .read) n) (w .offer)

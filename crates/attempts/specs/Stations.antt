@@ -7,14 +7,15 @@ use Rattle.requests.specs.declared.Phase.{Phase}
 use Rattle.register.specs.declared.Department.the-variants.{Sails}
 use Rattle.attempts.specs.declared.State.{State}
 use Rattle.attempts.specs.declared.State.the-variants.{Idle, Reading, Writing, Decided, Gone}
+use Rattle.attempts.specs.declared.Decision.the-variants.{None}
 use Rattle.attempts.specs.declared.Station.{Station}
 
--- "On a new floor places not in use are 0, idle, not issued." It is also what a read past the end of an array gives by the language's
--- own rule.
+-- "On a new floor places not in use are 0, idle, not issued." Wish 7 of document 02: "A station keeps whether it decided", which it has not.
+-- It is also what a read past the end of an array gives by the language's own rule.
 abbrev pub station0 : Station
-station0 = record { department = Sails; state = Idle; last = 0; decided = 0 }
+station0 = record { department = Sails; state = Idle; last = 0; decided = None }
 
--- the station x in another state; its department, its last round and its decided revision stay
+-- the station x in another state; its department, its last round and what it decided stay
 abbrev pub withState : (x : Station) (state : State) → Station
 withState x state = record { department = x .department; state = state; last = x .last; decided = x .decided }
 

@@ -34,12 +34,18 @@ pub enum State {
     Gone,
 }
 
-// A station: the paper's client, of one department. Its last round and its decided revision (0: none) survive its going.
+// Whether a station decided, and which revision. Revision 0, "do not cut", is one like any other.
+pub enum Decision {
+    None,
+    Revision(u32),
+}
+
+// A station: the paper's client, of one department. Its last round and what it decided survive its going.
 pub struct Station {
     pub department: Department,
     pub state: State,
     pub last: u16,
-    pub decided: u32,
+    pub decided: Decision,
 }
 
 // What a box answered to a read: its write rank and value, 0 and 0 where the read was outranked.

@@ -249,7 +249,7 @@ fn revision_below(w: Row, n: u8) -> u32
     let answers = w.answers;
     let read = w.read;
     let x = best_of(answers, read, n);
-    if x.value == 0 {
+    if x.rank == 0 {
         return w.offer;
     }
     x.value

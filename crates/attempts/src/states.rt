@@ -76,15 +76,16 @@ pub fn in_phase(s: State, p: Phase, a: u8) -> bool
     }
 }
 
-// The station in another state; its department, its last round and its decided revision stay.
+// The station in another state; its department, its last round and what it decided stay.
 pub fn with_state(x: Station, state: State) -> Station
     ensures { λ r. ⌜ r ≡ withState x state ⌝ }
 {
     let department = x.department;
+    let decided = x.decided;
     Station {
         department,
         state,
         last: x.last,
-        decided: x.decided,
+        decided,
     }
 }

@@ -6,6 +6,7 @@ use mathlib.Core.List.{List, [], _∷_}
 use Rattle.register.specs.declared.Register.{Register}
 use Rattle.register.specs.declared.ReadDone.{ReadDone}
 use Rattle.register.specs.declared.WriteDone.{WriteDone}
+use Rattle.attempts.specs.declared.Decision.{Decision}
 use Rattle.attempts.specs.declared.State.{State}
 use Rattle.commands.specs.declared.Outcome.{Outcome}
 
@@ -22,12 +23,13 @@ pub data Letter : Type 0 where
   J : Letter
   K : Letter
 
--- what the program drill prints for a station: "number, state, rank of its last attempt (0 if none), decided revision (0 if none)"
+-- what the program drill prints for a station: "number, state, rank of its last attempt (0 if none), decided revision", or none (wish 7 of
+-- document 02: "the drill prints `none` where it has not" decided)
 pub record StationLine : Type 0 where
   pub number : ℕ
   pub state : State
   pub rank : ℕ
-  pub decided : ℕ
+  pub decided : Decision
 
 -- what it prints: label, n and m; the station lines in order; "last `end`, accepted steps, refusal (0 if none)"
 pub record Printed : Type 0 where

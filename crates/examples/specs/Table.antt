@@ -7,6 +7,7 @@ use Rattle.register.specs.Register.{rmwRead, rmwWrite}
 use Rattle.register.specs.declared.Register.{Register}
 use Rattle.register.specs.declared.ReadAnswer.the-variants.{Outranked}
 use Rattle.requests.specs.declared.Phase.the-variants.{Read}
+use Rattle.attempts.specs.declared.Decision.the-variants.{Revision}
 use Rattle.attempts.specs.declared.State.the-variants as state
 use Rattle.commands.specs.declared.Outcome.{Outcome}
 use Rattle.commands.specs.declared.Outcome.the-variants.{Begun, Served, Received, Aborted, WriteIssued, Decided, Refused}
@@ -35,7 +36,7 @@ luff =
       label = 0x6C ∷ 0x75 ∷ 0x66 ∷ 0x66 ∷ [];
       boxes = 1;
       stations = 1;
-      lines = record { number = 0; state = state.Decided 0; rank = 16; decided = 7 } ∷ [];
+      lines = record { number = 0; state = state.Decided 0; rank = 16; decided = Revision 7 } ∷ [];
       accepted = 5;
       refusal = 0;
     }

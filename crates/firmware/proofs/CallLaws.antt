@@ -181,9 +181,9 @@ module _ (s : List ℕ) (r v : ℕ) where
   unfolding writeAnswer
   write-16 n = on-true _ (other _ 12 n) refl
 
-  pub write-17 : length s ≡ 12 → (r ≡ 0) ⊎ (v ≡ 0) → 17 ≡ writeAnswer s r v
+  pub write-17 : length s ≡ 12 → r ≡ 0 → 17 ≡ writeAnswer s r v
   unfolding writeAnswer
-  write-17 h e = on-false _ (this _ 12 h) (on-true _ (either _ _ (⊎-map (eq-eqb r 0) (eq-eqb v 0) e)) refl)
+  write-17 h e = on-false _ (this _ 12 h) (on-true _ (eq-eqb r 0 e) refl)
 
   -- the record stays as it is after any other answer than 0: refused or not taken
   pub write-kept : (a : ℕ) → eqb a 0 ≡ false → a ≡ writeAnswer s r v → s ≡ recordAfterWrite s r v
@@ -195,14 +195,14 @@ module _ (s : List ℕ) (r v : ℕ) where
   unfolding recordAfterWrite
   write-record e = on-true _ (ap (λ (x : ℕ). eqb x 0) (sym e)) refl
 
-  module _ (h : length s ≡ 12) (n : r ≡ 0 → ⊥) (m : v ≡ 0 → ⊥) where
+  module _ (h : length s ≡ 12) (n : r ≡ 0 → ⊥) where
     pub write-0 : rmwWrite (decode s) r v .taken ≡ true → 0 ≡ writeAnswer s r v
     unfolding writeAnswer
-    write-0 t = on-false _ (this _ 12 h) (on-false _ (neither _ _ (ne-eqb r 0 n) (ne-eqb v 0 m)) (on-true _ t refl))
+    write-0 t = on-false _ (this _ 12 h) (on-false _ (ne-eqb r 0 n) (on-true _ t refl))
 
     pub write-100 : rmwWrite (decode s) r v .taken ≡ false → 100 ≡ writeAnswer s r v
     unfolding writeAnswer
-    write-100 t = on-false _ (this _ 12 h) (on-false _ (neither _ _ (ne-eqb r 0 n) (ne-eqb v 0 m)) (on-false _ t refl))
+    write-100 t = on-false _ (this _ 12 h) (on-false _ (ne-eqb r 0 n) (on-false _ t refl))
 
     -- as the code comes to it, from what was loaded and what the routine made of it
     module _ (x : Register) (d : WriteDone) (ex : x ≡ decode s) (ed : d ≡ rmwWrite x r v) where

@@ -230,13 +230,13 @@ module _ (s : List ℕ) (r : ℕ) (b : Bytes s) (h : length s ≡ 12) (n : ¬ (r
         sym (on-false _ t refl) ∙ on-false _ (ap (λ (x : ℕ). eqb x 0) (sym e)) refl,
       ))
 
-  pub as-box-write : (v : ℕ) → ¬ (v ≡ 0) → (encode (rmwWrite (decode s) r v .register) ≡ recordAfterWrite s r v) × (answerToWrite (rmwWrite (decode s) r v) ≡ noted (writeAnswer s r v))
+  pub as-box-write : (v : ℕ) → (encode (rmwWrite (decode s) r v .register) ≡ recordAfterWrite s r v) × (answerToWrite (rmwWrite (decode s) r v) ≡ noted (writeAnswer s r v))
   unfolding answerToWrite
-  as-box-write v m =
+  as-box-write v =
       by-cases (rmwWrite (decode s) r v .taken)
-      (λ t. let e = write-0 s r v h n m t in (write-record s r v e, sym (on-true _ t refl) ∙ on-true _ (eq-eqb (writeAnswer s r v) 0 (sym e)) refl))
+      (λ t. let e = write-0 s r v h n t in (write-record s r v e, sym (on-true _ t refl) ∙ on-true _ (eq-eqb (writeAnswer s r v) 0 (sym e)) refl))
       (λ t.
-      let e = write-100 s r v h n m t in (
+      let e = write-100 s r v h n t in (
         ap (λ (d : WriteDone). encode (d .register)) (write-refused (decode s) r v (sym (write-answers (decode s) r v) ∙ t)) ∙ encode-decode s b h ∙ write-kept s r v 100 refl e,
         sym (on-false _ t refl) ∙ on-false _ (ap (λ (x : ℕ). eqb x 0) (sym e)) refl,
       ))

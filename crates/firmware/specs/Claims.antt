@@ -43,12 +43,12 @@ pub record FirmwareClaims : Type 0 where
   pub read-reply : (s : List ℕ) (r : ℕ) (p : List ℕ) → length s ≡ 12 → length p ≡ 8 → (r ≡ 0 → ⊥)
       → replyOf (rankIn (rmwRead (decode s) r .answer)) (valueIn (rmwRead (decode s) r .answer)) ≡ replyAfterRead s r p
   pub read-zeroed : (s : List ℕ) (r : ℕ) (p : List ℕ) → 100 ≡ readAnswer s r p → replicate 8 0 ≡ replyAfterRead s r p
-  -- the same of a write of revision v
+  -- the same of a write of any revision v
   pub write-16 : (s : List ℕ) (r v : ℕ) → (length s ≡ 12 → ⊥) → 16 ≡ writeAnswer s r v
-  pub write-17 : (s : List ℕ) (r v : ℕ) → length s ≡ 12 → (r ≡ 0) ⊎ (v ≡ 0) → 17 ≡ writeAnswer s r v
-  pub write-0 : (s : List ℕ) (r v : ℕ) → length s ≡ 12 → (r ≡ 0 → ⊥) → (v ≡ 0 → ⊥) → rmwWrite (decode s) r v .taken ≡ true → 0 ≡ writeAnswer s r v
-  pub write-100 : (s : List ℕ) (r v : ℕ) → length s ≡ 12 → (r ≡ 0 → ⊥) → (v ≡ 0 → ⊥) → rmwWrite (decode s) r v .taken ≡ false → 100 ≡ writeAnswer s r v
-  pub write-routine : (s : List ℕ) (r v : ℕ) → length s ≡ 12 → (r ≡ 0 → ⊥) → (v ≡ 0 → ⊥)
+  pub write-17 : (s : List ℕ) (r v : ℕ) → length s ≡ 12 → r ≡ 0 → 17 ≡ writeAnswer s r v
+  pub write-0 : (s : List ℕ) (r v : ℕ) → length s ≡ 12 → (r ≡ 0 → ⊥) → rmwWrite (decode s) r v .taken ≡ true → 0 ≡ writeAnswer s r v
+  pub write-100 : (s : List ℕ) (r v : ℕ) → length s ≡ 12 → (r ≡ 0 → ⊥) → rmwWrite (decode s) r v .taken ≡ false → 100 ≡ writeAnswer s r v
+  pub write-routine : (s : List ℕ) (r v : ℕ) → length s ≡ 12 → (r ≡ 0 → ⊥)
       → decode (recordAfterWrite s r v) ≡ rmwWrite (decode s) r v .register
   -- record and reply stay lists of bytes
   pub read-bytes : (s : List ℕ) (r : ℕ) (p : List ℕ) → Bytes s → r < 2 ^ 32 → Bytes (recordAfterRead s r p)
@@ -100,5 +100,5 @@ pub record ServeClaims : Type 0 where
   -- which is that of the box calls
   pub as-read : (s : List ℕ) (r : ℕ) (p : List ℕ) → Bytes s → length s ≡ 12 → length p ≡ 8 → ¬ (r ≡ 0)
       → (encode (rmwRead (decode s) r .register) ≡ recordAfterRead s r p) × (answerToRead (rmwRead (decode s) r) ≡ replied (readAnswer s r p) (replyAfterRead s r p))
-  pub as-write : (s : List ℕ) (r v : ℕ) → Bytes s → length s ≡ 12 → ¬ (r ≡ 0) → ¬ (v ≡ 0)
+  pub as-write : (s : List ℕ) (r v : ℕ) → Bytes s → length s ≡ 12 → ¬ (r ≡ 0)
       → (encode (rmwWrite (decode s) r v .register) ≡ recordAfterWrite s r v) × (answerToWrite (rmwWrite (decode s) r v) ≡ noted (writeAnswer s r v))

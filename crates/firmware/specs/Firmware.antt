@@ -31,11 +31,11 @@ readAnswer s r p =
     else numberIn (rmwRead (decode s) r .answer)
 
 -- "A write returns 0 for taken and 100 for not taken", of record s with rank r and revision v. Before that 16 (a write has no reply), then
--- "17. A box call with rank 0, or a write with revision 0".
+-- "17. A box call with rank 0"; wish 7: it "stop[s] looking at the revision".
 unfoldable pub writeAnswer : (s : List ℕ) (r v : ℕ) → ℕ
 writeAnswer s r v =
     if not (eqb (length s) 12) then 16
-    else if eqb r 0 || eqb v 0 then 17
+    else if eqb r 0 then 17
     else if rmwWrite (decode s) r v .taken then 0
     else 100
 

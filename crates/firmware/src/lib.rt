@@ -92,8 +92,7 @@ pub extern "C" fn box_write(bytes: &mut [u8], rank: u32, revision: u32) -> u32
 {
     if bytes.len() != 12 {
         return 16;
-    }
-    if rank == 0 || revision == 0 {
+    } else if rank == 0 {
         return 17;
     }
     let done = rmw_write(load(bytes), rank, revision);

@@ -25,8 +25,8 @@ use Rattle.floor.proofs.RefusalLaws.{begin-holds, serve-holds, deliver-
 use Rattle.floor.proofs.StepLaws.{apply-accepted}
 
 module _ (f : Floor) (z : Sound f) where
-  pub begin-accepted : (s round v : ℕ) → CanBegin f s round v → applyOf f (Begin s round v) ≡ stepped (afterBegin f s round v) (said.Begun (rowTaken f s))
-  begin-accepted s round v d = apply-accepted f (Begin s round v) z (begin-holds f s round v d)
+  pub begin-accepted : (s round v : ℕ) → CanBegin f s round → applyOf f (Begin s round v) ≡ stepped (afterBegin f s round v) (said.Begun (rowTaken f s))
+  begin-accepted s round v d = apply-accepted f (Begin s round v) z (begin-holds f s round d)
 
   module _ (a b : ℕ) where
     pub serve-accepted : (p : Phase) → CanServe f p a b → applyOf f (Serve p a b) ≡ stepped (afterServe f p a b) (said.Served a)

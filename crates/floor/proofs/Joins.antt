@@ -170,7 +170,7 @@ module _ (f : Floor) (z : Sound f) where
   pub effect-join : (c : Command) → refusalOn f c ≡ 0 → accepted f c (effectIn (look f c) c) ≡ effectOn f c
   unfolding begun served
   effect-join (Begin s round v) e =
-      let d = begin-means f s round v e in
+      let d = begin-means f s round e in
       rw (at-station s (d .station), place-same 128 (rowTaken f s) (d .row), box-same (departmentAt f s) (boxAt f (placeIn 9 0)), set-getD (f .boxes) _ box0)
   effect-join (Serve p a b) e = let d = serve-means f p a b e in rw (at-box b (d .box), at-row a (d .used), share-same (rowDepartment a) f, set-getD (f .stations) _ station0)
   effect-join (Deliver p a b) e = deliver-join a b (deliver-means f p a b e .used) p

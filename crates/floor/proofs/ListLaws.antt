@@ -1,4 +1,5 @@
--- One list of steps behind another: the floors and what the steps say are those of the second list from the floor that the first left.
+-- One list of steps behind another: the floors and what the steps say are those of the second list from the floor that the first left. Each
+-- floor of a list is sound.
 use Prim.Native.Nat.{ℕ, zero, suc, _+_, _≤_, _<_}
 use native.Mathlib.Omega.{arith}
 use native.Mathlib.Nat.{zero-add, suc-add}
@@ -7,8 +8,10 @@ use mathlib.Core.List.{List, [], _∷_, _++_}
 use lib.ListN.{length, getD, take, length-append}
 use lib.Seq.{getD-append-add, getD-take, length-take-le}
 use Rattle.floor.specs.Step.{stepOf}
+use Rattle.floor.specs.Claims.{Sound}
 use Rattle.floor.specs.Runs.{floorAt, saidAt, floorLeft}
 use Rattle.floor.specs.declared.Floor.{Floor}
+use Rattle.floor.proofs.Keeps.{step-keeps}
 
 -- without the first step
 pub floor-shift : (f : Floor) (r : List ℕ) (l : List (List ℕ)) (i : ℕ) → floorAt f (r ∷ l) (suc i) ≡ floorAt (stepOf f r .floor) l i
@@ -46,3 +49,9 @@ said-taken f l k i h = ap₂ (λ (g : Floor) (r : List ℕ). stepOf g r .outcome
 
 pub left-taken : (f : Floor) (l : List (List ℕ)) (k : ℕ) → k ≤ length l → floorLeft f (take k l) ≡ floorAt f l k
 left-taken f l k h = ap (floorAt f (take k l)) (length-take-le k l h) ∙ floor-taken f l k k (omega arith)
+
+-- a sound floor stays sound
+pub sound-at : (f : Floor) (l : List (List ℕ)) → Sound f → (i : ℕ) → Sound (floorAt f l i)
+unfolding floorAt
+sound-at f l z zero = z
+sound-at f l z (suc i) = step-keeps (floorAt f l i) (getD l i []) (sound-at f l z i)

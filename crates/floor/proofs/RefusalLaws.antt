@@ -1,11 +1,11 @@
 -- A step's refusal is 0 exactly where it passes each of its tests, and otherwise 7 to 14.
-use Prim.Native.Nat.{ℕ, zero, suc, _<_, _≤_}
+use Prim.Native.Nat.{ℕ, _<_, _≤_}
 use native.Mathlib.Omega.{arith}
 use mathlib.Core.Path.{_≡_, refl, sym}
 use mathlib.Core.Logic.{_⊎_, inl, inr}
 use mathlib.Core.Bool.{Bool, true, false}
 use lib.Dec.{eqb}
-use borrow.Author.Tests.{leb-false, lt-leb, eqb-false, ne-eqb}
+use borrow.Author.Tests.{leb-false, lt-leb, ne-eqb}
 use Rattle.base.specs.Choice.{if_then_else_}
 use Rattle.base.proofs.Choices.{on-true, on-false, by-test, passed}
 use Rattle.requests.specs.declared.Phase.{Phase}
@@ -21,16 +21,12 @@ unfolding if_then_else_
 met true k e h = refl
 met false k e h = absurd (omega arith)
 
-pub positive : (u : ℕ) → eqb u 0 ≡ false → 0 < u
-positive zero e = absurd (eqb-false 0 0 e refl)
-positive (suc u) e = omega arith
-
 not-zero : (u : ℕ) → 0 < u → eqb u 0 ≡ false
 not-zero u h = ne-eqb u 0 (λ (e : u ≡ 0). omega arith)
 
 module _ (f : Floor) where
-  module _ (s round v : ℕ) where
-    pub begin-means : beginRefusal f s round v ≡ 0 → CanBegin f s round v
+  module _ (s round : ℕ) where
+    pub begin-means : beginRefusal f s round ≡ 0 → CanBegin f s round
     unfolding beginRefusal
     begin-means e =
         let x₁ = passed _ _ _ e (omega arith) in
@@ -39,21 +35,19 @@ module _ (f : Floor) where
         let x₄ = passed _ _ _ (x₃ .1) (omega arith) in
         let x₅ = passed _ _ _ (x₄ .1) (omega arith) in
         let x₆ = passed _ _ _ (x₅ .1) (omega arith) in
-        let x₇ = passed _ _ _ (x₆ .1) (omega arith) in
         record {
           station = leb-false _ _ (x₁ .0);
           here = x₂ .0;
           free = x₃ .0;
-          offer = positive v (x₄ .0);
-          later = leb-false _ _ (x₆ .0);
-          row = leb-false _ _ (x₇ .0);
+          later = leb-false _ _ (x₅ .0);
+          row = leb-false _ _ (x₆ .0);
         }
 
-    pub begin-holds : CanBegin f s round v → beginRefusal f s round v ≡ 0
+    pub begin-holds : CanBegin f s round → beginRefusal f s round ≡ 0
     unfolding beginRefusal
     begin-holds d =
-        sym (on-false _ (lt-leb _ _ (d .station)) (on-false _ (d .here) (on-false _ (d .free) (on-false _ (not-zero v (d .offer))
-        (on-false _ (not-zero round (omega (arith, d .later))) (on-false _ (lt-leb _ _ (d .later)) (on-false _ (lt-leb _ _ (d .row)) refl)))))))
+        sym (on-false _ (lt-leb _ _ (d .station)) (on-false _ (d .here) (on-false _ (d .free)
+        (on-false _ (not-zero round (omega (arith, d .later))) (on-false _ (lt-leb _ _ (d .later)) (on-false _ (lt-leb _ _ (d .row)) refl))))))
 
   module _ (p : Phase) (a b : ℕ) where
     pub serve-means : serveRefusal f p a b ≡ 0 → CanServe f p a b
@@ -132,7 +126,7 @@ unfolding beginRefusal stopRefusal leaveRefusal
 refusal-numbered f (Begin s round v) =
     or-else _ _ _ (omega arith) (omega arith) (or-else _ _ _ (omega arith) (omega arith) (or-else _ _ _ (omega arith) (omega arith)
     (or-else _ _ _ (omega arith) (omega arith) (or-else _ _ _ (omega arith) (omega arith) (or-else _ _ _ (omega arith) (omega arith)
-    (or-else _ _ _ (omega arith) (omega arith) (inl refl)))))))
+    (inl refl))))))
 refusal-numbered f (Serve p a b) = serve-numbered f p a b
 refusal-numbered f (Deliver p a b) = deliver-numbered f p a b
 refusal-numbered f (Stop b) = or-else _ _ _ (omega arith) (omega arith) (or-else _ _ _ (omega arith) (omega arith) (inl refl))

@@ -64,8 +64,8 @@ module _ {f : Floor} {c : Command} {j : ℕ} where
   decided-by station-kept = inl refl
   decided-by (station-begins q h i l) = inl refl
   decided-by (station-issues q u w r) = inl refl
-  decided-by (station-decides {a = a} {b = b} q u w r v) =
-      inr (record { attempt = a; box = b; command = q; used = u; owner = w; written = v; outcome = refl })
+  decided-by (station-decides {a = a} {b = b} {v = v} q u w r e) =
+      inr (record { attempt = a; box = b; command = q; used = u; owner = w; revision = v; decision = refl; written = e; outcome = refl })
   decided-by (station-aborts q u w r) = inl refl
   decided-by (station-leaves q h) = inl refl
 
@@ -99,6 +99,6 @@ module _ (f : Floor) (c : Command) (j : ℕ) where
   pub active-from : (a : ℕ) → isActive (after .state) a ≡ true → (isActive (before .state) a ≡ true) ⊎ (said ≡ Begun a)
   active-from a = active-by a (apply-station f c j)
 
-  -- the decided revision changes at a delivery that says so only
+  -- what it decided changes at a delivery that says so only
   pub decided-from : (after .decided ≡ before .decided) ⊎ DecidesNow f c j said (after .decided)
   decided-from = decided-by (apply-station f c j)

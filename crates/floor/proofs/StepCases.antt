@@ -34,7 +34,7 @@ use Rattle.floor.proofs.RefusalLaws.{begin-means, serve-means, deliver-
 
 pub data StepCase (f : Floor) : Command → Stepped → Type 0 where
   turned : {c : Command} (k : ℕ) → TurnedBack f c k → StepCase f c (refused f k)
-  began : {s round v : ℕ} → Sound f → CanBegin f s round v → StepCase f (Begin s round v) (stepped (afterBegin f s round v) (said.Begun (rowTaken f s)))
+  began : {s round v : ℕ} → Sound f → CanBegin f s round → StepCase f (Begin s round v) (stepped (afterBegin f s round v) (said.Begun (rowTaken f s)))
   served : {p : Phase} {a b : ℕ} → Sound f → CanServe f p a b → StepCase f (Serve p a b) (stepped (afterServe f p a b) (said.Served a))
   heard : {p : Phase} {a b : ℕ} → Sound f → CanDeliver f p a b
       → (isIn p (ownerAt f a .state) a ≡ false) ⊎ (atQuorum (requestsHeard p (rowAt f a) b) (f .n) ≡ false)
@@ -70,7 +70,7 @@ module _ (f : Floor) (z : Sound f) where
     deliver-case p d = by-test (Leads p) _ _ _ (λ e. heard-case p d e (verdict-came (requestsHeard p (rowAt f a) b) (f .n) p)) (λ e. heard z d (inl e))
 
   accepted-case : (c : Command) → refusalOn f c ≡ 0 → StepCase f c (effectOn f c)
-  accepted-case (Begin s round v) e = began z (begin-means f s round v e)
+  accepted-case (Begin s round v) e = began z (begin-means f s round e)
   accepted-case (Serve p a b) e = served z (serve-means f p a b e)
   accepted-case (Deliver p a b) e = deliver-case a b p (deliver-means f p a b e)
   accepted-case (Stop b) e = stopped z (stop-means f b e)

@@ -24,6 +24,8 @@ use Rattle.attempts.specs.Stations.{isGone, isBusy, isReading, isWriting, isAct
 use Rattle.attempts.specs.Rows.{rowDepartment, requestsOf, newRow, revisionOf, rowServed, registerServed, requestsHeard}
 use Rattle.attempts.specs.Rows as rows
 use Rattle.attempts.specs.declared.State.the-variants as state
+use Rattle.attempts.specs.declared.Decision.{Decision}
+use Rattle.attempts.specs.declared.Decision.the-variants.{Revision}
 use Rattle.attempts.specs.declared.Station.{Station}
 use Rattle.attempts.specs.declared.Row.{Row}
 use Rattle.floor.specs.Floors.{boxAt, stationAt, rowAt, ownerAt, registerAt, departmentAt, shareOf, usedOf, endOf, InUse, newFloorOf}
@@ -63,11 +65,10 @@ pub record SameSizes (f g : Floor) : Type 0 where
 
 -- What a step of each kind asks of the floor: the tests that it passes where its refusal is 0.
 module _ (f : Floor) where
-  pub record CanBegin (s round v : ℕ) : Type 0 where
+  pub record CanBegin (s round : ℕ) : Type 0 where
     pub station : s < f .m
     pub here : isGone (stationAt f s .state) ≡ false
     pub free : isBusy (stationAt f s .state) ≡ false
-    pub offer : 0 < v
     pub later : stationAt f s .last < round
     pub row : rowTaken f s < 128
 
@@ -106,7 +107,7 @@ module _ (f : Floor) (c : Command) (g : Floor) where
     pub round : ℕ
     pub offer : ℕ
     pub command : c ≡ Begin station round offer
-    pub may : CanBegin f station round offer
+    pub may : CanBegin f station round
     pub next : a ≡ rowTaken f station
     pub row : rowAt g (rowTaken f station) ≡ newRow (f .n) station round offer
     pub beginning : stationAt g station ≡ beginner f station round
@@ -203,7 +204,7 @@ module _ (f : Floor) (c : Command) (j : ℕ) where
     station-issues : {a b v : ℕ} → c ≡ Deliver Read a b → InUse f a → rowAt f a .station ≡ j → isReading (stationAt f j .state) a ≡ true
         → StationMove (WriteIssued v) (withState (stationAt f j) (state.Writing a))
     station-decides : {a b v : ℕ} → c ≡ Deliver Write a b → InUse f a → rowAt f a .station ≡ j → isWriting (stationAt f j .state) a ≡ true
-        → rowAt f a .written ≡ v → StationMove (Decided v) (record { department = departmentAt f j; state = state.Decided a; last = stationAt f j .last; decided = v })
+        → rowAt f a .written ≡ v → StationMove (Decided v) (record { department = departmentAt f j; state = state.Decided a; last = stationAt f j .last; decided = Revision v })
     station-aborts : {p : Phase} {a b : ℕ} → c ≡ Deliver p a b → InUse f a → rowAt f a .station ≡ j → isIn p (stationAt f j .state) a ≡ true
         → StationMove (Aborted a) (withState (stationAt f j) state.Idle)
     station-leaves : c ≡ Leave j → isGone (stationAt f j .state) ≡ false → StationMove (Gone j) (withState (stationAt f j) state.Gone)
@@ -249,15 +250,17 @@ pub record SameAttempt (w x : Row) : Type 0 where
   pub rank : x .rank ≡ w .rank
   pub offer : x .offer ≡ w .offer
 
--- The step that sets a station's decided revision: the delivery that says decided v, of an attempt that the station j owns.
-pub record DecidesNow (f : Floor) (c : Command) (j : ℕ) (o : Outcome) (v : ℕ) : Type 0 where
+-- The step that sets what a station decided to x: the delivery that says decided with this revision, of an attempt that the station j owns.
+pub record DecidesNow (f : Floor) (c : Command) (j : ℕ) (o : Outcome) (x : Decision) : Type 0 where
   pub attempt : ℕ
   pub box : ℕ
   pub command : c ≡ Deliver Write attempt box
   pub used : InUse f attempt
   pub owner : rowAt f attempt .station ≡ j
-  pub written : rowAt f attempt .written ≡ v
-  pub outcome : o ≡ Decided v
+  pub revision : ℕ
+  pub decision : x ≡ Revision revision
+  pub written : rowAt f attempt .written ≡ revision
+  pub outcome : o ≡ Decided revision
 
 -- the step that sets its last round: its begin
 pub record BeginsNow (f : Floor) (c : Command) (j : ℕ) (o : Outcome) (round : ℕ) : Type 0 where
@@ -318,7 +321,8 @@ pub record StepClaims : Type 0 where
   pub gone-stays : (f : Floor) (r : List ℕ) (j : ℕ) → isGone (stationAt f j .state) ≡ true → isGone (stationAt (stepOf f r .floor) j .state) ≡ true
   -- a box's ranks never fall, and each is its old one or that of a row in use, department by department
   pub grown : (f : Floor) (r : List ℕ) (d : Department) (j : ℕ) → Grown f d (registerAt f d j) (registerAt (stepOf f r .floor) d j)
-  -- "It also keeps its last round and its decided revision, which survives its going": both change at the step that says so only
+  -- "It also keeps its last round and its decided revision, which survives its going", and whether it decided (wish 7): both change at the
+  -- step that says so only
   pub last-from : (f : Floor) (r : List ℕ) (j : ℕ) → (stationAt (stepOf f r .floor) j .last ≡ stationAt f j .last)
       ⊎ BeginsNow f (commandOf r) j (stepOf f r .outcome) (stationAt (stepOf f r .floor) j .last)
   pub decided-from : (f : Floor) (r : List ℕ) (j : ℕ) → (stationAt (stepOf f r .floor) j .decided ≡ stationAt f j .decided)

@@ -1,4 +1,4 @@
--- Document 01, "Steps", and wishes 2, 5 and 6 of document 02: the floor that an accepted step leads to, and what came of it.
+-- Document 01, "Steps", and wishes 2, 5, 6 and 7 of document 02: the floor that an accepted step leads to, and what came of it.
 use Prim.Native.Nat.{ℕ, max}
 use mathlib.Core.Bool.{true}
 use Rattle.base.specs.Choice.{if_then_else_}
@@ -16,6 +16,7 @@ use Rattle.commands.specs.declared.Outcome.the-variants as said
 use Rattle.attempts.specs.Stations.{withState, isIn}
 use Rattle.attempts.specs.Rows.{rowDepartment, newRow, usedAfter, issued, revisionOf, rowServed, registerServed, requestsHeard, rowHeard}
 use Rattle.attempts.specs.declared.State.the-variants as state
+use Rattle.attempts.specs.declared.Decision.the-variants.{Revision}
 use Rattle.attempts.specs.declared.Station.{Station}
 use Rattle.attempts.specs.declared.Row.{Row}
 use Rattle.floor.specs.Floors.{boxAt, stationAt, rowAt, ownerAt, registerAt, departmentAt, usedOf, highestOf, withShare, withBox, withRegister, withStation, withRow}
@@ -78,10 +79,11 @@ afterIssue f a w revision =
 abbrev pub readEndedOn : (f : Floor) (a : ℕ) (w : Row) → Stepped
 readEndedOn f a w = stepped (afterIssue f a w (revisionOf w (f .n))) (said.WriteIssued (revisionOf w (f .n)))
 
--- "When the q-th write answer reaches a writing station, it decides if all q say taken; otherwise it aborts and is idle."
+-- "When the q-th write answer reaches a writing station, it decides if all q say taken; otherwise it aborts and is idle." Wish 7: "A station
+-- keeps whether it decided", and which revision.
 abbrev pub decider : (f : Floor) (a : ℕ) (w : Row) → Station
 decider f a w =
-    record { department = departmentAt f (w .station); state = state.Decided a; last = stationAt f (w .station) .last; decided = w .written }
+    record { department = departmentAt f (w .station); state = state.Decided a; last = stationAt f (w .station) .last; decided = Revision (w .written) }
 
 abbrev pub afterDecision : (f : Floor) (a : ℕ) (w : Row) → Floor
 afterDecision f a w = withStation (withRow f a w) (w .station) (decider f a w)

@@ -15,6 +15,7 @@ use Rattle.register.specs.declared.StorageBox.{StorageBox}
 use Rattle.attempts.specs.Stations.{station0}
 use Rattle.attempts.specs.Rows.{row0, unusedRow, rowDepartment, firstRow}
 use Rattle.attempts.specs.declared.State.the-variants.{Idle}
+use Rattle.attempts.specs.declared.Decision.the-variants.{None}
 use Rattle.attempts.specs.declared.Station.{Station}
 use Rattle.attempts.specs.declared.Row.{Row}
 use Rattle.floor.specs.declared.Share.{Share}
@@ -97,9 +98,9 @@ withRow f a w = withRows f (set (f .rows) a w)
 unfoldable pub departmentFrom : (byte : ℕ) → Department
 departmentFrom byte = if eqb byte 0 then Sails else Canvas
 
--- a station of that department that has begun nothing
+-- a station of that department that has begun nothing and decided nothing
 abbrev pub newStation : (department : Department) → Station
-newStation department = record { department = department; state = Idle; last = 0; decided = 0 }
+newStation department = record { department = department; state = Idle; last = 0; decided = None }
 
 -- the stations of a new floor, the first k of them told their departments; the others are sails
 unfoldable pub stationsTold : (departments : List ℕ) (k : ℕ) → List Station

@@ -13,14 +13,13 @@ use Rattle.floor.specs.Floors.{boxAt, stationAt, rowAt, ownerAt, departm
 use Rattle.floor.specs.Free.{nextRow}
 use Rattle.floor.specs.declared.Floor.{Floor}
 
--- 8, 9, 10, 11 (revision 0, round 0, a round not above the station's last), 12 ("no row unused or free", wish 5 of document
--- 02, in the station's department, wish 6)
-unfoldable pub beginRefusal : (f : Floor) (station round revision : ℕ) → ℕ
-beginRefusal f station round revision =
+-- 8, 9, 10, 11 (round 0, a round not above the station's last; wish 7 of document 02: it "stop[s] looking at the revision"), 12 ("no row
+-- unused or free", wish 5, in the station's department, wish 6)
+unfoldable pub beginRefusal : (f : Floor) (station round : ℕ) → ℕ
+beginRefusal f station round =
     if leb (f .m) station then 8
     else if isGone (stationAt f station .state) then 9
     else if isBusy (stationAt f station .state) then 10
-    else if eqb revision 0 then 11
     else if eqb round 0 then 11
     else if leb round (stationAt f station .last) then 11
     else if leb 128 (nextRow f (departmentAt f station)) then 12
@@ -60,7 +59,7 @@ leaveRefusal f station =
 
 -- 7 before all
 abbrev pub refusalOn : (f : Floor) (c : Command) → ℕ
-refusalOn f (Begin s round v) = beginRefusal f s round v
+refusalOn f (Begin s round v) = beginRefusal f s round
 refusalOn f (Serve p a b) = serveRefusal f p a b
 refusalOn f (Deliver p a b) = deliverRefusal f p a b
 refusalOn f (Stop b) = stopRefusal f b

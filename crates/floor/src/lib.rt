@@ -19,6 +19,7 @@ ghost use Rattle.floor.specs.Free.{nextRow};
 ghost use Rattle.floor.specs.Step.{applyOf, stepOf, refusalOf, valueSaid};
 ghost use Rattle.floor.specs.Runs.{stopsAt, runFrom, refusalBy, playedIn, drivenIn};
 ghost use Rattle.floor.specs.Claims.{Sound};
+use attempts::Decision;
 use attempts::Row;
 use attempts::State;
 use attempts::Station;
@@ -104,7 +105,7 @@ fn stations_told(departments: &[u8]) -> [Station; 16]
         department: Department::Sails,
         state: State::Idle,
         last: 0,
-        decided: 0,
+        decided: Decision::None,
     }; 16];
     let mut k: usize = 0;
     while k < departments.len() {
@@ -113,7 +114,7 @@ fn stations_told(departments: &[u8]) -> [Station; 16]
             department,
             state: State::Idle,
             last: 0,
-            decided: 0,
+            decided: Decision::None,
         };
         k += 1;
     }

@@ -1,6 +1,6 @@
 -- Document 02, wish 3, "Frames on the wire": the messages between stations and boxes, and the frame of each.
 use Prim.Native.Nat.{ℕ}
-use mathlib.Core.Bool.{Bool, true, false}
+use mathlib.Core.Bool.{Bool, false}
 use mathlib.Core.List.{List, [], _∷_, _++_}
 use lib.Dec.{eqb, leb, ltb}
 use lib.ListN.{length, getD}
@@ -47,10 +47,10 @@ bodyOf m = 1 ∷ kindOf m ∷ spelt (fieldsOf m)
 unfoldable pub frameOf : (m : Message) → List ℕ
 frameOf m = bytes16 (length (bodyOf m)) ++ bodyOf m
 
--- 21: "a rank or revision of 0 in a request". A read answer may hold zeros.
+-- 21: "a rank .. of 0 in a request". Wish 7: it "stop[s] looking at the revision". A read answer may hold zeros.
 abbrev pub wrongMessage : (m : Message) → Bool
 wrongMessage (ReadRequest rank) = eqb rank 0
-wrongMessage (WriteRequest rank revision) = if eqb rank 0 then true else eqb revision 0
+wrongMessage (WriteRequest rank revision) = eqb rank 0
 wrongMessage (ReadAnswer rank value) = false
 wrongMessage Outranked = false
 wrongMessage Taken = false

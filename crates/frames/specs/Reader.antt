@@ -47,7 +47,7 @@ wrongLength s =
 unfoldable pub wrongVersion : (s : List ℕ) → Bool
 wrongVersion s = not (eqb (versionIn s) 1)
 
--- the message, if it is not one that is turned away: "then 21 for .. a rank or revision of 0 in a request"
+-- the message, if it is not one that is turned away: "then 21 for .. a rank .. of 0 in a request"
 unfoldable pub checked : (m : Message) → Parsed
 checked m = if wrongMessage m then Refused 21 else Accepted m
 

@@ -85,18 +85,13 @@ fn fields_in(kind: u8) -> usize
     }
 }
 
-// Refusal 21, of a message: the rank or the revision of a request is 0.
+// Refusal 21, of a message: the rank of a request is 0.
 fn wrong_message(m: Message) -> bool
     ensures { λ y. ⌜ y ≡ wrongMessage m ⌝ }
 {
     match m {
         Message::ReadRequest(rank) => rank == 0,
-        Message::WriteRequest(rank, revision) => {
-            if rank == 0 {
-                return true;
-            }
-            revision == 0
-        }
+        Message::WriteRequest(rank, _) => rank == 0,
         Message::ReadAnswer(_, _) => false,
         Message::Outranked => false,
         Message::Taken => false,

@@ -18,6 +18,7 @@ use Rattle.commands.specs.declared.Outcome.the-variants as said
 use Rattle.attempts.specs.Stations.{isGone, isBusy, isIn, withState}
 use Rattle.attempts.specs.Rows.{rowDepartment, requestsOf, newRow, revisionOf, usedAfter, issued, rowServed, registerServed, requestsHeard, rowHeard}
 use Rattle.attempts.specs.declared.State.the-variants as state
+use Rattle.attempts.specs.declared.Decision.the-variants.{Revision}
 use Rattle.attempts.specs.declared.Station.{Station}
 use Rattle.attempts.specs.declared.Row.{Row}
 use Rattle.parts.specs.declared.Parts.{Parts}
@@ -64,12 +65,11 @@ departmentIn own (Leave s) = own
 departmentIn own Malformed = own
 
 -- Refusals 7 to 14, 0 where the step is accepted.
-unfoldable pub beginIn : (x : Parts) (s round v : ℕ) → ℕ
-beginIn x s round v =
+unfoldable pub beginIn : (x : Parts) (s round : ℕ) → ℕ
+beginIn x s round =
     if leb (x .m) s then 8
     else if isGone (x .station .state) then 9
     else if isBusy (x .station .state) then 10
-    else if eqb v 0 then 11
     else if eqb round 0 then 11
     else if leb round (x .station .last) then 11
     else if leb 128 (x .next) then 12
@@ -104,7 +104,7 @@ leaveIn x s =
     else 0
 
 abbrev pub refusalIn : (x : Parts) (c : Command) → ℕ
-refusalIn x (Begin s round v) = beginIn x s round v
+refusalIn x (Begin s round v) = beginIn x s round
 refusalIn x (Serve p a b) = serveIn x p a b
 refusalIn x (Deliver p a b) = deliverIn x p a b
 refusalIn x (Stop b) = stopIn x b
@@ -173,7 +173,7 @@ abortedBy x a w = record { parts = withParts x w (x .register) (x .stopped) (wit
 abbrev pub decidedBy : (x : Parts) (a : ℕ) (w : Row) → Changed
 decidedBy x a w =
     record {
-      parts = withParts x w (x .register) (x .stopped) (record { department = x .station .department; state = state.Decided a; last = x .station .last; decided = w .written });
+      parts = withParts x w (x .register) (x .stopped) (record { department = x .station .department; state = state.Decided a; last = x .station .last; decided = Revision (w .written) });
       outcome = said.Decided (w .written);
     }
 

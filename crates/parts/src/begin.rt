@@ -8,8 +8,8 @@ use attempts::State;
 use attempts::Station;
 use commands::Outcome;
 
-pub(crate) fn begin_refusal(x: Parts, s: u8, round: u16, v: u32) -> u8
-    ensures { λ r. ⌜ r ≡ beginIn x s round v ⌝ }
+pub(crate) fn begin_refusal(x: Parts, s: u8, round: u16) -> u8
+    ensures { λ r. ⌜ r ≡ beginIn x s round ⌝ }
 {
     let st = x.station;
     let state = st.state;
@@ -23,9 +23,6 @@ pub(crate) fn begin_refusal(x: Parts, s: u8, round: u16, v: u32) -> u8
     }
     if busy {
         return 10;
-    }
-    if v == 0 {
-        return 11;
     }
     if round == 0 {
         return 11;
@@ -61,11 +58,12 @@ pub(crate) fn begin(x: Parts, s: u8, round: u16, v: u32) -> Changed
     y.highest = highest;
     y.row = row;
     let department = st.department;
+    let decided = st.decided;
     let station = Station {
         department,
         state: State::Reading(a),
         last: round,
-        decided: st.decided,
+        decided,
     };
     y.station = station;
     Changed {

@@ -4,6 +4,7 @@ ghost use Prim.Native.Nat.{_<_};
 ghost use Rattle.parts.specs.Parts.{deliverIn, readEnded, decidedBy, delivered};
 use crate::Changed;
 use crate::Parts;
+use attempts::Decision;
 use attempts::Row;
 use attempts::State;
 use attempts::Station;
@@ -60,7 +61,7 @@ fn decided(x: Parts, a: u8, w: Row) -> Changed
         department,
         state: State::Decided(a),
         last: st.last,
-        decided: w.written,
+        decided: Decision::Revision(w.written),
     };
     y.station = station;
     Changed {

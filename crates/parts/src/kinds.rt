@@ -14,7 +14,7 @@ fn refusal(x: Parts, c: Command) -> u8
     ensures { λ r. ⌜ r ≡ refusalIn x c ⌝ }
 {
     match c {
-        Command::Begin(s, round, v) => super::begin::begin_refusal(x, s, round, v),
+        Command::Begin(s, round, _) => super::begin::begin_refusal(x, s, round),
         Command::Serve(p, a, b) => super::serve::serve_refusal(x, p, a, b),
         Command::Deliver(p, a, b) => super::deliver::deliver_refusal(x, p, a, b),
         Command::Stop(b) => super::stop::stop_refusal(x, b),

@@ -82,6 +82,7 @@ rmwWrite x rank revision =
     if takes x rank then record { register = record { read = x .read; write = rank; value = revision }; taken = true }
     else record { register = x; taken = false }
 
--- "A box holds nothing while its value is 0": the paper's undefined value. The one place that says so.
-abbrev pub holdsNothing : (value : ℕ) → Bool
-holdsNothing value = eqb value 0
+-- Wish 7: "A box holds nothing exactly while its write rank is 0", whatever its value: the paper's undefined value. The one place that says
+-- so, of a box or of its answer, by the write rank.
+abbrev pub holdsNothing : (rank : ℕ) → Bool
+holdsNothing rank = eqb rank 0

@@ -63,7 +63,7 @@ take-ascends t (suc q) p [] u = tt
 take-ascends t (suc q) p (b ∷ bs) u = (u .0, u .1, u .2, take-ascends t q (b + 1) bs (u .3))
 
 -- a begin that is accepted, with q boxes that answer: the whole run
-module _ (f : Floor) (s v : ℕ) (highest : Bool) (z : Sound f) (l : Lengths f) (can : CanBegin f s (roundOf f s) v) (enough : quorum (f .n) ≤ length (answering f))
+module _ (f : Floor) (s v : ℕ) (highest : Bool) (z : Sound f) (l : Lengths f) (can : CanBegin f s (roundOf f s)) (enough : quorum (f .n) ≤ length (answering f))
     (low : (b : ℕ) → highest ≡ true → (registerAt f (departmentAt f s) b .read ≤ rankOf (roundOf f s) s) × (registerAt f (departmentAt f s) b .write < rankOf (roundOf f s) s)) where
   abbrev round : ℕ
   round = roundOf f s
@@ -109,25 +109,24 @@ module _ (f : Floor) (s v : ℕ) (highest : Bool) (z : Sound f) (l : Lengths f) 
       (take-ascends attempt (quorum (f .n)) 0 (answering f) (answering-ascends attempt (f .n) 0 0 (omega arith) (omega arith))))
 
 -- on a lawful floor the rank of the round picked passes every rank that a box has served, and every round that the station has begun
-module _ (f : Floor) (s v : ℕ) (y : Lawful f) (x : Ready f s v) where
+module _ (f : Floor) (s v : ℕ) (y : Lawful f) (x : Ready f s) where
   passes : highestBegun f s < rankOf (roundOf f s) s
   passes = round-passes (highestBegun f s) s
 
-  can-begin : CanBegin f s (roundOf f s) v
+  can-begin : CanBegin f s (roundOf f s)
   can-begin = record {
     station = x .station;
     here = ap isGone (x .idle);
     free = ap isBusy (x .idle);
-    offer = x .offer;
     later = elim (y .last s) [ inl e ↦ omega (arith, e, round-some (highestBegun f s) s) | inr h ↦ omega (arith, h, passes) ];
     row = x .row;
   }
 
-  no-refusal : soloRefusal f s v ≡ 0
+  no-refusal : soloRefusal f s ≡ 0
   no-refusal =
-      refusal-sound f s v (sound-holds f (y .sound))
-      ∙ front-holds f s v (roundOf f s)
-      (record { station = x .station; here = can-begin .here; free = can-begin .free; offer = x .offer; left = x .round; row = x .row; boxes = x .boxes })
+      refusal-sound f s (sound-holds f (y .sound))
+      ∙ front-holds f s (roundOf f s)
+      (record { station = x .station; here = can-begin .here; free = can-begin .free; left = x .round; row = x .row; boxes = x .boxes })
 
   decides : {t : Attempt} {o : Outcome} {k : ℕ} (d : Solo) → t .n ≡ f .n → t .highest ≡ true → d .outcome ≡ o → d .steps ≡ k → Over t o k → DecidesAlone f d
   decides d z i e n (has-decided v) = record { revision = v; said = e; steps = rw z at n }
@@ -165,7 +164,7 @@ module _ (f : Floor) (s v : ℕ) (l : Lengths f) where
 
   -- it is turned back with 0 steps, or takes 4q + 1 steps and decides or aborts, or is outranked at a read and aborts there
   pub solo-ends : Ends f s (soloOf f s v)
-  solo-ends = elim (ℕ-discrete (soloRefusal f s v) 0) [
-    | yes e ↦ rw (solo-driven f s v e) (begun-or-back (front-means f s v (roundOf f s) (refusal-zero f s v e) .boxes) refl (apply-case f begin))
-    | no e ↦ claims.turned (soloRefusal f s v) (solo-refused f s v e)
+  solo-ends = elim (ℕ-discrete (soloRefusal f s) 0) [
+    | yes e ↦ rw (solo-driven f s v e) (begun-or-back (front-means f s (roundOf f s) (refusal-zero f s e) .boxes) refl (apply-case f begin))
+    | no e ↦ claims.turned (soloRefusal f s) (solo-refused f s v e)
   ]

@@ -15,23 +15,21 @@ use Rattle.floor.specs.Runs.{runOf}
 use Rattle.floor.specs.Effects.{rowTaken}
 use Rattle.floor.specs.declared.Floor.{Floor}
 use Rattle.floor.specs.declared.Until.the-variants.{End}
-use Rattle.floor.proofs.RefusalLaws.{positive}
 use Rattle.solo.specs.Plan.{roundOf, answering, beginOf, exchangesOf}
 use Rattle.solo.specs.Solo.{frontRefusal, soloRefusal, turnedAway, ofRun, soloOf, soloNumber, soloValue}
 use Rattle.solo.specs.declared.Solo.{Solo}
 
 -- no refusal from 8 on applies
-pub record MayFinish (f : Floor) (s v round : ℕ) : Type 0 where
+pub record MayFinish (f : Floor) (s round : ℕ) : Type 0 where
   pub station : s < f .m
   pub here : isGone (stationAt f s .state) ≡ false
   pub free : isBusy (stationAt f s .state) ≡ false
-  pub offer : 0 < v
   pub left : round ≤ 65535
   pub row : rowTaken f s < 128
   pub boxes : quorum (f .n) ≤ length (answering f)
 
-module _ (f : Floor) (s v round : ℕ) where
-  pub front-means : frontRefusal f s v round ≡ 0 → MayFinish f s v round
+module _ (f : Floor) (s round : ℕ) where
+  pub front-means : frontRefusal f s round ≡ 0 → MayFinish f s round
   unfolding frontRefusal
   front-means e =
       let x₁ = passed _ _ _ e (omega arith) in
@@ -40,31 +38,28 @@ module _ (f : Floor) (s v round : ℕ) where
       let x₄ = passed _ _ _ (x₃ .1) (omega arith) in
       let x₅ = passed _ _ _ (x₄ .1) (omega arith) in
       let x₆ = passed _ _ _ (x₅ .1) (omega arith) in
-      let x₇ = passed _ _ _ (x₆ .1) (omega arith) in
       record {
         station = leb-false _ _ (x₁ .0);
         here = x₂ .0;
         free = x₃ .0;
-        offer = positive v (x₄ .0);
-        left = ltb-false _ _ (x₅ .0);
-        row = leb-false _ _ (x₆ .0);
-        boxes = ltb-false _ _ (x₇ .0);
+        left = ltb-false _ _ (x₄ .0);
+        row = leb-false _ _ (x₅ .0);
+        boxes = ltb-false _ _ (x₆ .0);
       }
 
-  pub front-holds : MayFinish f s v round → frontRefusal f s v round ≡ 0
+  pub front-holds : MayFinish f s round → frontRefusal f s round ≡ 0
   unfolding frontRefusal
   front-holds d =
       sym (on-false _ (lt-leb _ _ (d .station)) (on-false _ (d .here) (on-false _ (d .free)
-      (on-false _ (ne-eqb v 0 (λ (e : v ≡ 0). omega (arith, d .offer))) (on-false _ (le-ltb _ _ (d .left)) (on-false _ (lt-leb _ _ (d .row))
-      (on-false _ (le-ltb _ _ (d .boxes)) refl)))))))
+      (on-false _ (le-ltb _ _ (d .left)) (on-false _ (lt-leb _ _ (d .row)) (on-false _ (le-ltb _ _ (d .boxes)) refl))))))
 
 module _ (f : Floor) (s v : ℕ) where
   -- "a refused solo finish takes 0 steps", and leaves the floor
-  pub solo-refused : ¬ (soloRefusal f s v ≡ 0) → soloOf f s v ≡ turnedAway f (soloRefusal f s v)
+  pub solo-refused : ¬ (soloRefusal f s ≡ 0) → soloOf f s v ≡ turnedAway f (soloRefusal f s)
   unfolding soloOf
   solo-refused e = sym (on-false _ (ne-eqb _ _ e) refl)
 
-  pub solo-driven : soloRefusal f s v ≡ 0 → soloOf f s v ≡ ofRun (runOf End f (beginOf f s v) (exchangesOf f s))
+  pub solo-driven : soloRefusal f s ≡ 0 → soloOf f s v ≡ ofRun (runOf End f (beginOf f s v) (exchangesOf f s))
   unfolding soloOf
   solo-driven e = sym (on-true _ (eq-eqb _ _ e) refl)
 
@@ -77,31 +72,32 @@ module _ (f : Floor) (s v : ℕ) where
   unfolding soloOf soloValue
   solo-value = choice-ap (λ (d : Solo). valueOf (d .outcome)) _ _ _
 
-  pub refusal-unsound : soundOf f ≡ false → soloRefusal f s v ≡ 6
+module _ (f : Floor) (s : ℕ) where
+  pub refusal-unsound : soundOf f ≡ false → soloRefusal f s ≡ 6
   unfolding soloRefusal
   refusal-unsound e = sym (on-false _ e refl)
 
-  pub refusal-sound : soundOf f ≡ true → soloRefusal f s v ≡ frontRefusal f s v (roundOf f s)
+  pub refusal-sound : soundOf f ≡ true → soloRefusal f s ≡ frontRefusal f s (roundOf f s)
   unfolding soloRefusal
   refusal-sound e = sym (on-true _ e refl)
 
   -- no refusal: the floor is sound, and none of the others applies
-  pub refusal-zero : soloRefusal f s v ≡ 0 → frontRefusal f s v (roundOf f s) ≡ 0
+  pub refusal-zero : soloRefusal f s ≡ 0 → frontRefusal f s (roundOf f s) ≡ 0
   unfolding soloRefusal
-  refusal-zero = by-test (λ (k : ℕ). k ≡ 0 → frontRefusal f s v (roundOf f s) ≡ 0) (soundOf f) _ _ (λ _ e. e) (λ _ e. absurd (omega (arith, e)))
+  refusal-zero = by-test (λ (k : ℕ). k ≡ 0 → frontRefusal f s (roundOf f s) ≡ 0) (soundOf f) _ _ (λ _ e. e) (λ _ e. absurd (omega (arith, e)))
 
 -- the code's three ends: the floor is not sound; a later refusal applies; none does
 pub ends-unsound : (f : Floor) (s v : ℕ) (r : Solo) → soundOf f ≡ false → r ≡ turnedAway f 6 → r ≡ soloOf f s v
 ends-unsound f s v r z h =
-    let k = refusal-unsound f s v z in
-    h ∙ rw k at (sym (solo-refused f s v (λ (e : soloRefusal f s v ≡ 0). omega (arith, k))))
+    let k = refusal-unsound f s z in
+    h ∙ rw k at (sym (solo-refused f s v (λ (e : soloRefusal f s ≡ 0). omega (arith, k))))
 
-module _ (f : Floor) (s v round k : ℕ) (r : Solo) (z : soundOf f ≡ true) (picked : round ≡ roundOf f s) (ek : k ≡ frontRefusal f s v round) where
-  first : k ≡ soloRefusal f s v
-  first = ek ∙ rw picked (sym (refusal-sound f s v z))
+module _ (f : Floor) (s v round k : ℕ) (r : Solo) (z : soundOf f ≡ true) (picked : round ≡ roundOf f s) (ek : k ≡ frontRefusal f s round) where
+  first : k ≡ soloRefusal f s
+  first = ek ∙ rw picked (sym (refusal-sound f s z))
 
   pub ends-refused : ¬ (k ≡ 0) → r ≡ turnedAway f k → r ≡ soloOf f s v
-  ends-refused n e = e ∙ rw first (sym (solo-refused f s v (λ (o : soloRefusal f s v ≡ 0). n (first ∙ o))))
+  ends-refused n e = e ∙ rw first (sym (solo-refused f s v (λ (o : soloRefusal f s ≡ 0). n (first ∙ o))))
 
   pub ends-driven : k ≡ 0 → r ≡ ofRun (runOf End f (beginOf f s v) (exchangesOf f s)) → r ≡ soloOf f s v
   ends-driven o e = e ∙ sym (solo-driven f s v (sym first ∙ o))

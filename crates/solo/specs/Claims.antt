@@ -47,11 +47,10 @@ pub record Lawful (f : Floor) : Type 0 where
   pub write : (d : Department) (b : ℕ) → registerAt f d b .write ≤ highestOf f d
   pub last : (s : ℕ) → (stationAt f s .last ≡ 0) ⊎ (rankOf (stationAt f s .last) s ≤ highestBegun f s)
 
--- the station s is idle and may offer v, and nothing stands in its way
-pub record Ready (f : Floor) (s v : ℕ) : Type 0 where
+-- the station s is idle, and nothing stands in its way
+pub record Ready (f : Floor) (s : ℕ) : Type 0 where
   pub station : s < f .m
   pub idle : stationAt f s .state ≡ Idle
-  pub offer : 1 ≤ v
   pub round : roundOf f s ≤ 65535
   pub row : rowTaken f s < 128
   pub boxes : quorum (f .n) ≤ length (answering f)
@@ -84,6 +83,6 @@ pub record SoloClaims : Type 0 where
   pub ends : (f : Floor) (s v : ℕ) → Lengths f → Ends f s (soloOf f s v)
   -- "an idle station driven alone, whatever revision it offers, decides in exactly 4q + 1 steps", on a lawful floor; every floor that a
   -- list of steps from a new floor reaches is one
-  pub decides : (f : Floor) (s v : ℕ) → Lawful f → Ready f s v → DecidesAlone f (soloOf f s v)
+  pub decides : (f : Floor) (s v : ℕ) → Lawful f → Ready f s → DecidesAlone f (soloOf f s v)
   pub new-lawful : (n m : ℕ) (departments : List ℕ) → Lawful (newFloorOf n m departments .floor)
   pub lawful : (f : Floor) (r : List ℕ) → Lawful f → Lawful (stepOf f r .floor)

@@ -88,9 +88,9 @@ fn too_few(boxes: [StorageBox; 9], n: u8) -> bool
 }
 
 // The first of refusals 8 to 12 and 15 that applies, 0 where none does; `next` is the row that the begin takes.
-fn refusal(f: Floor, s: u8, v: u32, round: u32, next: u8) -> u8
+fn refusal(f: Floor, s: u8, round: u32, next: u8) -> u8
     requires { ⌜ (f .n ≤ 9) × (f .m ≤ 16) × (next ≡ rowTaken f s) ⌝ }
-    ensures { λ r. ⌜ r ≡ frontRefusal f s v round ⌝ }
+    ensures { λ r. ⌜ r ≡ frontRefusal f s round ⌝ }
 {
     if f.m <= s {
         return 8;
@@ -106,9 +106,6 @@ fn refusal(f: Floor, s: u8, v: u32, round: u32, next: u8) -> u8
     }
     if busy {
         return 10;
-    }
-    if v == 0 {
-        return 11;
     }
     if 65535 < round {
         return 11;
@@ -202,7 +199,7 @@ pub fn solo_finish(f: Floor, s: u8, v: u32) -> Solo
     let share = floor::share_of(shares, d);
     let round = round_above(share.highest, s);
     let next = floor::next_row(f, d);
-    let e = refusal(f, s, v, round, next);
+    let e = refusal(f, s, round, next);
     if e != 0 {
         return turned_away(f, e);
     }

@@ -1,7 +1,4 @@
-use mathlib.Core.Path.{refl}
 use borrow.Author.Needs.{needs}
-use Rattle.base.proofs.Choices.{on-true, on-false}
-use Rattle.base.proofs.Tests.{tests}
 use Rattle.frames.proofs.wrong_message.Statement.{statement}
 use Rattle.frames.proofs.wrong_message.Tie as tie
 
@@ -11,13 +8,12 @@ wrong-message-spec =
     (tie.spec
     (λ c. search needs)
     (λ c. search needs)
-    (λ c. rw (c .before .before .m2 .given .1) (on-true _ (search tests) refl))
     (λ c. search needs)
     (λ c. search needs)
     (λ c. search needs)
     (λ c. search needs)
     (λ c. rw (c .before .m .given .1))
-    (λ c. rw (c .before .before .m2 .given .1) (on-false _ (search tests) refl))
+    (λ c. rw (c .before .m2 .given .1))
     (λ c. search needs)
     (λ c. search needs)
     (λ c. search needs)

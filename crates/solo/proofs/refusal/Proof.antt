@@ -7,8 +7,8 @@ use Rattle.solo.proofs.refusal.Statement.{statement}
 use Rattle.solo.proofs.refusal.Tie as tie
 
 -- where the row is looked at
-abbrev entry : tie.Else5 → tie.Start
-entry c = c .before .before .before .before .before .before .before .before .before .before
+abbrev entry : tie.Else4 → tie.Start
+entry c = c .before .before .before .before .before .before .before .before .before
 
 pub refusal-spec : {M : Type 1} → statement M
 unfolding frontRefusal
@@ -24,7 +24,6 @@ refusal-spec =
     (λ c. on-false _ (search tests) (on-true _ (search tests) refl))
     (λ c. on-false _ (search tests) (on-false _ (search tests) (on-true _ (search tests) refl)))
     (λ c. on-false _ (search tests) (on-false _ (search tests) (on-false _ (search tests) (on-true _ (search tests) refl))))
-    (λ c. on-false _ (search tests) (on-false _ (search tests) (on-false _ (search tests) (on-false _ (search tests) (on-true _ (search tests) refl)))))
-    (λ c. rw (← entry (c .before) .pre .2) (on-false _ (search tests) (on-false _ (search tests) (on-false _ (search tests) (on-false _ (search tests) (on-false _ (search tests) (on-true _ (search tests) refl)))))))
-    (λ c. rw (← entry (c .before .before) .pre .2) (on-false _ (search tests) (on-false _ (search tests) (on-false _ (search tests) (on-false _ (search tests) (on-false _ (search tests) (on-false _ (search tests) (on-true _ (search tests) refl))))))))
-    (λ c. rw (← entry (c .before .before) .pre .2) (on-false _ (search tests) (on-false _ (search tests) (on-false _ (search tests) (on-false _ (search tests) (on-false _ (search tests) (on-false _ (search tests) (on-false _ (search tests) (refl))))))))))
+    (λ c. rw (← entry (c .before) .pre .2) (on-false _ (search tests) (on-false _ (search tests) (on-false _ (search tests) (on-false _ (search tests) (on-true _ (search tests) refl))))))
+    (λ c. rw (← entry (c .before .before) .pre .2) (on-false _ (search tests) (on-false _ (search tests) (on-false _ (search tests) (on-false _ (search tests) (on-false _ (search tests) (on-true _ (search tests) refl)))))))
+    (λ c. rw (← entry (c .before .before) .pre .2) (on-false _ (search tests) (on-false _ (search tests) (on-false _ (search tests) (on-false _ (search tests) (on-false _ (search tests) (on-false _ (search tests) (refl)))))))))

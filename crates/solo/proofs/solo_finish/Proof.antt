@@ -68,7 +68,7 @@ solo-finish-spec =
     let p = c .before .before in
     let e = ends-refused _ _ _ _ _ _ (sound-here (p .before)) (round (p .before)) (p .refusal .ensures) (c .before .if2 .taken) (c .turned-away2 .ensures) in
     (e, (number _ _ _ _ e, value _ _ _ _ e)))
-    (λ c. let d = front-means _ _ _ _ (sym (c .before .refusal .ensures) ∙ c .if2 .left) in omega (arith, d .left))
+    (λ c. let d = front-means _ _ _ (sym (c .before .refusal .ensures) ∙ c .if2 .left) in omega (arith, d .left))
     (λ c κs. let x = c .before .before in (sound-means (floor x) (sound-here x), round x, row x))
     (λ c.
     let p = c .before .before in

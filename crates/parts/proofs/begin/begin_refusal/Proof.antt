@@ -19,5 +19,4 @@ begin-refusal-spec =
     (λ c. on-false _ (search tests) (on-false _ (search tests) (on-false _ (search tests) (on-true _ (search tests) refl))))
     (λ c. on-false _ (search tests) (on-false _ (search tests) (on-false _ (search tests) (on-false _ (search tests) (on-true _ (search tests) refl)))))
     (λ c. on-false _ (search tests) (on-false _ (search tests) (on-false _ (search tests) (on-false _ (search tests) (on-false _ (search tests) (on-true _ (search tests) refl))))))
-    (λ c. on-false _ (search tests) (on-false _ (search tests) (on-false _ (search tests) (on-false _ (search tests) (on-false _ (search tests) (on-false _ (search tests) (on-true _ (search tests) refl)))))))
-    (λ c. on-false _ (search tests) (on-false _ (search tests) (on-false _ (search tests) (on-false _ (search tests) (on-false _ (search tests) (on-false _ (search tests) (on-false _ (search tests) (refl)))))))))
+    (λ c. on-false _ (search tests) (on-false _ (search tests) (on-false _ (search tests) (on-false _ (search tests) (on-false _ (search tests) (on-false _ (search tests) (refl))))))))
