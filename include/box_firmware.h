@@ -4,16 +4,20 @@
  *
  *     bytes 0 to 3     read rank
  *     bytes 4 to 7     write rank
- *     bytes 8 to 11    value: the revision that the box holds, 0 while it holds nothing
+ *     bytes 8 to 11    value: the revision that the box holds
  *
- * The record of a new box is all zero bytes. Any contents are accepted.
+ * The record of a new box is all zero bytes. Any contents are accepted. A box holds nothing exactly while its write rank is 0, whatever
+ * the value is. With any other write rank it holds the value, also where that is 0.
  *
  * The reply, which a read fills: BOX_REPLY_BYTES bytes, two 32-bit numbers, each big-endian; all 0 where the read is outranked.
  *
  *     bytes 0 to 3     write rank
  *     bytes 4 to 7     value
  *
- * A rank is round * 16 + station number, and is passed as a number, not as bytes; so is a revision. Neither may be 0.
+ * A station goes by the write rank of an answer, not by the value: write rank 0 says that the box holds nothing.
+ *
+ * A rank is round * 16 + station number, and is passed as a number, not as bytes; so is a revision. A rank may not be 0. A revision is
+ * any 32-bit number: 0 means "do not cut", and is written, kept and answered as every other is.
  *
  * A frame, which carries one message; its numbers are big-endian.
  *
@@ -49,14 +53,14 @@ extern "C" {
 #define BOX_OUTRANKED 100u     /* read: a higher rank was served; the record is as it was, and the reply is zeroed */
 #define BOX_NOT_TAKEN 100u     /* write: not taken, and the record is as it was */
 #define BOX_REFUSED_LENGTH 16u /* the record is not 12 bytes, or the reply is not 8 */
-#define BOX_REFUSED_ZERO 17u   /* the rank is 0, or the revision of a write is 0 */
+#define BOX_REFUSED_ZERO 17u   /* the rank is 0 */
 
 /* Read with a rank. If read rank <= rank and write rank <= rank, the read rank becomes the rank, write rank and value stay, and the
  * reply gets write rank and value. Otherwise the read is outranked: the record stays as it is, and all 8 bytes of the reply become 0.
  * Answers 16, then 17, then 0 (done) or 100 (outranked). */
 uint32_t box_read(uint8_t *record, size_t record_len, uint32_t rank, uint8_t *reply, size_t reply_len);
 
-/* Write a revision with a rank. If read rank <= rank and write rank < rank, the write is taken: the write rank becomes the rank,
+/* Write a revision, any, with a rank. If read rank <= rank and write rank < rank, the write is taken: the write rank becomes the rank,
  * the value the revision, and the read rank stays. Otherwise the record stays as it is. Answers 16, then 17, then 0 (taken) or 100
  * (not taken). */
 uint32_t box_write(uint8_t *record, size_t record_len, uint32_t rank, uint32_t revision);
@@ -79,7 +83,7 @@ uint32_t box_write(uint8_t *record, size_t record_len, uint32_t rank, uint32_t r
 #define FRAME_REFUSED_BUFFER 18u  /* the buffer is shorter than the frame */
 #define FRAME_REFUSED_LENGTH 19u  /* the length is missing, passes the input, is under 2, or is not that of the kind */
 #define FRAME_REFUSED_VERSION 20u /* the version is not 1 */
-#define FRAME_REFUSED_MESSAGE 21u /* the kind is none of the six, or the rank or the revision of a request is 0 */
+#define FRAME_REFUSED_MESSAGE 21u /* the kind is none of the six, or the rank of a request is 0 */
 
 /* Reads the frame at the start of the input: stores the kind, its first and its second field, a field that the kind does not have as
  * 0, and the part of the input behind the frame: the rest_len bytes from input + rest on. Answers 19, then 20, then 21, then 0. Where

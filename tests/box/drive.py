@@ -178,12 +178,13 @@ class Connection:
 
 
 class Station:
-    """Document 01, "Steps", with wish 2. A request waits until `read` or `write` has it served; its answer is then delivered at once."""
+    """Document 01, "Steps", with wishes 2 and 7. A request waits until `read` or `write` has it served; its answer is then delivered at
+    once. `decided` is None until the station decides: revision 0 is a decision."""
 
     def __init__(self, boxes):
         self.connections = [Connection(box) for box in boxes]
         self.quorum = len(boxes) // 2 + 1
-        self.state, self.decided = "idle", 0
+        self.state, self.decided = "idle", None
 
     def begin(self, rank, offer):
         self.rank, self.offer, self.state = rank, offer, "reading"
@@ -199,8 +200,8 @@ class Station:
             return "aborted"
         if len(self.reads) != self.quorum:
             return "received"
-        _, _, value = min(self.reads.items(), key=lambda read: (-read[1][1], read[0]))[1]  # the highest write rank, then the lowest box
-        self.state, self.revision = "writing", value if value != 0 else self.offer
+        _, rank, value = min(self.reads.items(), key=lambda read: (-read[1][1], read[0]))[1]  # the highest write rank, then the lowest box
+        self.state, self.revision = "writing", self.offer if rank == 0 else value  # wish 7: by the write rank, whatever the value
         return "write issued", self.revision
 
     def write(self, box):
@@ -271,6 +272,119 @@ def example_i():
     over(boxes, zero, one)
 
 
+def withdrawal():
+    """Wish 7: revision 0, "do not cut", is decided, and a station that offers another revision finds it. All bytes are written out."""
+    boxes = [Box(f"withdrawal-{b}") for b in range(3)]
+
+    def does(box, *exchanges):
+        connection = Connection(boxes[box])
+        for request, answer, record in exchanges:
+            asked.append(request)
+            connection.send_bytes(bytes.fromhex(request))
+            there = connection.fetch(len(bytes.fromhex(answer)))
+            check(there == bytes.fromhex(answer), f"{boxes[box].name} answers {there.hex(' ')}, not {answer}")
+            check(boxes[box].kept() == bytes.fromhex(record), f"{boxes[box].name} keeps {boxes[box].kept().hex(' ', 4)}, not {record}")
+        connection.close()
+
+    for box in (0, 1):  # rank 16 withdraws: two boxes that hold nothing, and take revision 0
+        does(box, ("0006 0101 00000010", "000A 0103 00000000 00000000", "00000010 00000000 00000000"),
+             ("000A 0102 00000010 00000000", "0002 0105", "00000010 00000010 00000000"),
+             ("000A 0102 00000010 00000007", "0002 0106", "00000010 00000010 00000000"))  # a second write of this rank
+    # rank 33 offers 9; box 2 holds nothing and box 1 holds revision 0, so it writes that, and it is decided again
+    does(2, ("0006 0101 00000021", "000A 0103 00000000 00000000", "00000021 00000000 00000000"))
+    does(1, ("0006 0101 00000021", "000A 0103 00000010 00000000", "00000021 00000010 00000000"),
+         ("000A 0102 00000021 00000000", "0002 0105", "00000021 00000021 00000000"))
+    does(2, ("000A 0102 00000021 00000000", "0002 0105", "00000021 00000021 00000000"))
+    over(boxes)
+
+
+def withdrawals():
+    """Wish 7, by stations: a withdrawal is found as any other revision is, and finds what was decided before it."""
+    boxes = [Box(f"withdrawals-{b}") for b in range(3)]
+    first, second = Station(boxes), Station(boxes)
+    first.begin(16, 0)
+    check(first.decided is None, f"a station that has not decided shows {first.decided}")
+    first.does(("read", 0, "received"), ("read", 1, ("write issued", 0)), ("write", 0, "received"), ("write", 1, ("decided", 0)))
+    check((first.state, first.decided) == ("decided", 0), f"the station is {first.state} on {first.decided}")
+    for box, numbers in zip(boxes, [(16, 16, 0), (16, 16, 0), (0, 0, 0)]):
+        box.numbers_are(*numbers)
+    boxes[1].end(signal.SIGKILL, -9)  # a box that is started again holds revision 0 still
+    boxes[1].start()
+    second.connections[1].close()
+    second.connections[1] = Connection(boxes[1])
+    second.begin(33, 9)
+    second.does(("read", 2, "received"), ("read", 1, ("write issued", 0)), ("write", 2, "received"), ("write", 1, ("decided", 0)))
+    second.does(("read", 0, "received"), ("write", 0, "received"))
+    for box in boxes:
+        box.numbers_are(33, 33, 0)
+    for revision in (0, 9):  # rank 0 ends the connection, and the record is as it was
+        refused = Connection(boxes[0])
+        refused.send((WRITE, 0, revision))
+        refused.is_closed()
+        boxes[0].numbers_are(33, 33, 0)
+        boxes[0].goes_on()
+    over(boxes, first, second)
+
+    boxes = [Box(f"example-0-{b}") for b in range(3)]  # example I, in which station 0 withdraws
+    zero, one = Station(boxes), Station(boxes)
+    zero.begin(16, 0)
+    zero.does(("read", 0, "received"), ("read", 1, ("write issued", 0)))
+    one.begin(17, 9)
+    one.does(("read", 1, "received"), ("read", 2, ("write issued", 9)), ("write", 1, "received"), ("write", 2, ("decided", 9)))
+    zero.does(("write", 0, "received"), ("write", 1, "aborted"), ("write", 2, "received"))
+    for box, numbers in zip(boxes, [(16, 16, 0), (17, 17, 9), (17, 17, 9)]):
+        box.numbers_are(*numbers)
+    check((zero.state, zero.decided) == ("idle", None), f"the station is {zero.state} on {zero.decided}")
+    zero.begin(32, 0)
+    zero.does(("read", 0, "received"), ("read", 2, ("write issued", 9)), ("write", 2, "received"), ("write", 0, ("decided", 9)))
+    over(boxes, zero, one)
+
+    # which answer a station takes: (write rank, value) at boxes 0 and 1, and what it writes where it offers 5
+    for i, (first_held, second_held, written) in enumerate((
+            ((16, 7), (17, 0), 0), ((17, 7), (16, 0), 7),  # the highest write rank
+            ((0, 7), (16, 0), 0), ((16, 0), (0, 0), 0),  # nothing, and revision 0
+            ((0, 7), (0, 0), 5), ((0, 7), (0, 9), 5),  # nothing, whatever the value
+            ((16, 0), (16, 7), 0), ((16, 7), (16, 0), 7))):  # of equals the lowest box
+        boxes = [Box(f"held-{i}-{b}", 17, *held) for b, held in enumerate((first_held, second_held))]
+        station = Station(boxes)
+        station.begin(33, 5)
+        station.does(("read", 1, "received"), ("read", 0, ("write issued", written)))
+        station.does(("write", 0, "received"), ("write", 1, ("decided", written)))
+        for box in boxes:
+            box.numbers_are(33, 33, written)
+        over(boxes, station)
+
+
+def random_attempts():
+    """Wish 7: "Agreement covers withdrawals". Stations that offer 0 or 7 compete with rising rounds; all that decide, decide the same."""
+    made = random.Random(SEED)
+    found = []
+    for i in range(6):
+        boxes = [Box(f"attempts-{i}-{b}") for b in range(3)]
+        stations = [Station(boxes) for _ in range(3)]
+        rounds, waiting, step = [0] * len(stations), [[] for _ in stations], 0
+        while any(station.state != "decided" for station in stations) and step < 400:
+            step += 1
+            asked.append(f"seed {SEED}, attempts {i}, step {step}")
+            number = made.randrange(len(stations))
+            station = stations[number]
+            if station.state == "idle":
+                rounds[number] = max(rounds[number] + 1, made.choice(rounds))
+                station.begin(16 * rounds[number] + number, made.choice((0, 7)))
+                waiting[number] = [("read", box) for box in range(len(boxes))]
+            elif waiting[number]:
+                what, box = waiting[number].pop(made.randrange(len(waiting[number])))
+                said = getattr(station, what)(box)
+                if said[0] == "write issued":
+                    waiting[number] += [("write", box) for box in range(len(boxes))]
+                if said[0] == "decided":
+                    found.append((said[1], station.offer))
+        decided = {station.decided for station in stations}
+        check(decided in ({0}, {7}), f"stations decide {decided}")
+        over(boxes, *stations)
+    check((0, 7) in found and (7, 0) in found, f"no station found the other revision decided: {found}")
+
+
 def outranked_reads():
     boxes = [Box("outranked-0", 33, 16, 7), Box("outranked-1", 5, 33, 7), Box("outranked-2")]
     for box in boxes[:2]:  # by the read rank as in example F, by the write rank
@@ -292,10 +406,10 @@ def split_frames():
     box = Box("split")
     one, other = Connection(box), Connection(box)
     rank = 16
-    for kind, size in ((READ, 8), (WRITE, 12)):
+    for kind, size, by in ((READ, 8, 0), (WRITE, 12, 0x01010101), (WRITE, 12, 0)):  # a write of a revision of four bytes, and of 0
         for cuts in [range(1, size)] + [[cut] for cut in range(1, size)]:  # byte by byte, then at each position
             rank += 2
-            request = (READ, rank) if kind == READ else (WRITE, rank, rank * 0x01010101)
+            request = (READ, rank) if kind == READ else (WRITE, rank, rank * by)
             data, places = frame(*request), [0, *cuts, size]
             asked.append(request)
             for start, end in zip(places, places[1:]):
@@ -323,7 +437,8 @@ def joined_frames():
     box = Box("joined")
     c = Connection(box)
     for requests in ([(READ, 16), (WRITE, 16, 7), (READ, 15), (WRITE, 16, 9), (READ, 33), (WRITE, 20, 9), (WRITE, 40, 7)],
-                     [(kind, rank, 7)[:1 + FIELDS[kind]] for rank in range(41, 47) for kind in (WRITE, READ)]):
+                     [(kind, rank, 7)[:1 + FIELDS[kind]] for rank in range(41, 47) for kind in (WRITE, READ)],
+                     [(WRITE, 50, 0), (READ, 50), (WRITE, 50, 9), (WRITE, 51, 9), (READ, 51), (WRITE, 52, 0), (READ, 53), (WRITE, 52, 0)]):
         c.send(*requests)
         c.answered(*requests)
     for cut in range(1, 12):  # one frame and a part of the next, then the other part
@@ -335,14 +450,15 @@ def joined_frames():
         c.send_bytes(frame(*second)[cut:])
         c.answered(second)
     c.close()
-    for frames, served in ((frame(READ, 200) + frame(READ, 201, version=2), [(READ, 200)]), (frame(READ, 0) + frame(READ, 202), [])):
+    for frames, served in ((frame(READ, 200) + frame(READ, 201, version=2), [(READ, 200)]), (frame(READ, 0) + frame(READ, 202), []),
+                           (frame(WRITE, 200, 0) + frame(WRITE, 0, 0) + frame(WRITE, 203, 9), [(WRITE, 200, 0)])):
         c = Connection(box)  # a refused frame ends the connection: those before it were answered, those behind it are not served
         c.send_bytes(frames)
         if served:
             c.answered(*served)
         c.is_closed()
         box.is_kept()
-    new_connection_asks(box, (WRITE, 200, 5), (READ, 200))
+    new_connection_asks(box, (WRITE, 201, 5), (READ, 201))
     box.end()
 
 
@@ -359,9 +475,9 @@ def refused_frames():
         frames += [length, length + b"\1\1" + body[:9], length + b"\1\2" + body[:9]]
     frames += [of_length(length, kind) for kind in (READ, WRITE) for length in range(2, 11) if length != 2 + 4 * FIELDS[kind]]
     frames += [of_length(length, kind) for kind in (READ_ANSWER, OUTRANKED, TAKEN, NOT_TAKEN) for length in (2, 6, 10)]  # no requests
-    frames += [frame(*request, version=version) for version in (0, 2, 255) for request in ((READ, high), (WRITE, high, 9))]
+    frames += [frame(*request, version=version) for version in (0, 2, 255) for request in ((READ, high), (WRITE, high, 9), (WRITE, high, 0))]
     frames += [of_length(length, kind) for kind in (0, 7, 255) for length in (2, 6, 10)]
-    frames += [frame(READ, 0), frame(WRITE, 0, 9), frame(WRITE, high, 0), frame(WRITE, 0, 0)]
+    frames += [frame(READ, 0), frame(WRITE, 0, 9), frame(WRITE, 0, 0xFFFFFFFF), frame(WRITE, 0, 0)]  # rank 0, with any revision
     for data in frames:
         c = Connection(box)
         asked.append(data.hex(" "))
@@ -369,7 +485,8 @@ def refused_frames():
         c.is_closed()
         box.numbers_are(33, 16, 7)
         box.goes_on()
-    new_connection_asks(box, (WRITE, 33, 9), (READ, 34))
+    new_connection_asks(box, (WRITE, 33, 9), (READ, 34), (WRITE, 34, 0), (READ, 35))
+    box.numbers_are(35, 34, 0)
     box.end()
 
 
@@ -494,20 +611,27 @@ def random_requests():
     def number():
         return made.choice((0, 1, 16, 255, 256, 0x7FFFFFFF, 0xFFFFFFFF, made.getrandbits(32)))
 
-    for i in range(6):  # any 12 bytes are a record
+    for i in range(8):  # any 12 bytes are a record
         box = Box(f"random-{i}", number(), number(), number())
         connections = [Connection(box) for _ in range(5)]
         for step in range(80):
             near = made.choice((box.register.read, box.register.write, number()) if step < 3 else (box.register.read, box.register.write))
             rank = min(max(near + made.randint(-2, 3), 1), 0xFFFFFFFF)
-            request = made.choice(((READ, rank), (WRITE, rank, number() or 7)))
+            request = made.choice(((READ, rank), (WRITE, rank, made.choice((0, number())))))
             asked.append(f"seed {SEED}, request {step} to {box.name}")
-            seen.append(made.choice(connections).ask(*request)[0])
+            answer = made.choice(connections).ask(*request)
+            seen.append(answer[0])
+            if request[0] == WRITE and request[2] == 0:
+                seen.append(("revision 0", *answer))
+            elif answer[0] == READ_ANSWER and answer[1] != 0 and answer[2] == 0:
+                seen.append("revision 0 answered")
         for c in connections:
             c.close()
         box.end()
     for kind in (READ_ANSWER, OUTRANKED, TAKEN, NOT_TAKEN):
         check(seen.count(kind) >= 30, f"answers of kind {kind}: {seen.count(kind)} only")
+    for kind in (("revision 0", TAKEN), ("revision 0", NOT_TAKEN), "revision 0 answered"):
+        check(seen.count(kind) >= 10, f"answers {kind}: {seen.count(kind)} only")
 
 
 def interrupted(number, _):
@@ -526,8 +650,8 @@ def main():
         short.numbers_are(0, 1, 7)
         short.end()
         short.start(seconds=1)
-        for scenario in (whole_attempts, example_i, outranked_reads, split_frames, joined_frames, refused_frames, cut_connections,
-                         sixteen_connections, started_again, without_a_record, random_requests):
+        for scenario in (whole_attempts, example_i, withdrawal, withdrawals, outranked_reads, split_frames, joined_frames, refused_frames,
+                         cut_connections, sixteen_connections, started_again, without_a_record, random_requests, random_attempts):
             scenario()
         short.is_ended(0)  # by itself
     except (Failure, OSError, subprocess.SubprocessError) as e:

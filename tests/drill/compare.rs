@@ -1,8 +1,9 @@
-//! compare PROGRAM COUNT SEED FOLDER [coverage|CLAIM]: runs PROGRAM on COUNT generated drill files and compares what it prints with the
-//! reference, byte for byte; on each played file it also looks for demand 3's safety claims, within each department, in the reference's
-//! trace. Each version 2 file with accepted steps of both departments is run twice more, its accepted steps without those of one of them:
-//! the stations of the other have to print what they printed. The first file on which something differs is left in FOLDER. With the name of
-//! a CLAIM that is the first file that breaks it.
+//! compare PROGRAM COUNT SEED FOLDER [coverage|CLAIM|claims]: runs PROGRAM on COUNT generated drill files and compares what it prints with
+//! the reference, byte for byte; on each played file it also looks for demand 3's safety claims, within each department, in the reference's
+//! trace and lines. Each version 2 file with accepted steps of both departments is run twice more, its accepted steps without those of one
+//! of them: the stations of the other have to print what they printed. The first file on which something differs is left in FOLDER. With
+//! the name of a CLAIM that is the first file on which the reference breaks it, with `claims` the first on which it breaks any; PROGRAM is
+//! not run then, and what the files reached is not counted.
 mod generate;
 mod reference;
 
@@ -22,10 +23,16 @@ fn main() {
     let (program, folder) = (&words[1], Path::new(&words[4]));
     let count: u64 = words[2].parse().expect("COUNT is a number");
     let seed: u64 = words[3].parse().expect("SEED is a number");
-    assert_eq!(reference::report(&document_example()), DOCUMENT_LINES, "the reference does not print document 01's example");
+    assert_eq!(reference::report(&document_example(7, 5)), DOCUMENT_LINES, "the reference does not print document 01's example");
     let workers = std::thread::available_parallelism().map_or(1, |n| n.get()) as u64;
-    let wanted = words.get(5).filter(|word| *word != "coverage").map(|claim| format!(" breaks {claim}: "));
-    let differs = |why: &String| wanted.as_ref().map_or(true, |claim| why.contains(claim));
+    let claim = words.get(5).filter(|word| *word != "coverage");
+    for (records, lines) in [(5, "station 0 decided 16 0\nend 5 0\n"), (4, "station 0 writing 16 none\nend 4 0\n")] {
+        let printed = reference::report(&document_example(0, records));
+        let wanted = format!("panel luff boxes 1 stations 1\n{lines}");
+        assert!(claim.is_some() || printed == wanted, "the reference prints on a withdrawal\n{printed}and not\n{wanted}");
+    }
+    let broken = claim.map(|word| if word == "claims" { " breaks ".to_string() } else { format!(" breaks {word}: ") });
+    let differs = |why: &String| broken.as_ref().map_or(true, |claim| why.contains(claim));
     // the lowest number of a file on which something differs
     let lowest = AtomicU64::new(u64::MAX);
     let work = &|worker: u64| {
@@ -34,7 +41,8 @@ fn main() {
             if number > lowest.load(Ordering::Relaxed) {
                 break;
             }
-            let said = compare(program, &generate::file(seed, number), number, &mut reached);
+            let file = generate::file(seed, number);
+            let said = if claim.is_some() { alone(&file) } else { compare(program, &file, number, &mut reached) };
             if let Some(why) = said.err().filter(differs) {
                 lowest.fetch_min(number, Ordering::Relaxed);
                 return (reached, Some((number, why)));
@@ -59,27 +67,36 @@ fn main() {
         leave(folder, *number, &generate::file(seed, *number), why);
         std::process::exit(1);
     }
-    if words.get(5).is_some_and(|word| word == "coverage") {
+    if let Some(claim) = claim {
+        println!("drill: {claim}: broken by none of {count} files");
+        return;
+    }
+    if words.get(5).is_some() {
         for (what, files) in &reached {
             println!("{files:6} {what}");
         }
     }
     let [sails, canvas] = DEPARTMENTS.map(|d| reached.get(&taken_out(d)).copied().unwrap_or(0) as u64);
     assert!(count < 1000 || 8 * sails.min(canvas) >= count, "only {sails} and {canvas} files were run without one department's steps");
+    let unmet: Vec<_> = reached.iter().filter(|(what, files)| what.starts_with(WITHDRAWAL) && **files == 0).collect();
+    assert!(count < 4000 || unmet.is_empty(), "no file reached {unmet:?}");
     println!("drill: {sails} files run again without the steps of sails, {canvas} without those of canvas");
     println!("drill: {count} files compared");
 }
 
-/// Document 01's own example of a file, and what it prints.
-fn document_example() -> Vec<u8> {
+/// Document 01's own example of a file, with that revision in the place of 7, and its first records in the place of all 5.
+fn document_example(revision: u8, records: usize) -> Vec<u8> {
     let mut file = vec![0x00, 0x30, 0x01, 0x01, 0x01, 0x04, 0x6C, 0x75, 0x66, 0x66];
-    file.extend([0x01, 0x00, 0x00, 0x01, 0x00, 0x00, 0x00, 0x07]);
+    file.extend([0x01, 0x00, 0x00, 0x01, 0x00, 0x00, 0x00, revision]);
     for kind in [2, 4, 3, 5] {
         file.extend([kind, 0, 0, 0, 0, 0, 0, 0]);
     }
+    file.truncate(10 + 8 * records);
+    file[1] = file.len() as u8 - 2;
     file
 }
 
+/// What document 01 says that its example prints.
 const DOCUMENT_LINES: &str = "panel luff boxes 1 stations 1\nstation 0 decided 16 7\nend 5 0\n";
 
 fn leave(folder: &Path, number: u64, file: &[u8], why: &str) {
@@ -90,6 +107,21 @@ fn leave(folder: &Path, number: u64, file: &[u8], why: &str) {
         Err(e) => println!("drill: the file could not be left: {e}"),
     }
     let _ = std::fs::write(path.with_extension("why"), why);
+}
+
+/// Looks for the claims in what the reference makes of a file, with no program.
+fn alone(file: &[u8]) -> Result<(), String> {
+    let Ok(parts) = reference::parts(file) else { return Ok(()) };
+    let played = reference::play(&parts);
+    claims(&played, &reference::lines(&parts, &played)).map_err(in_trace)?;
+    for out in DEPARTMENTS.into_iter().filter(|_| parts.version == 2) {
+        deletion(&parts, &played, &left(&parts, &played, out), out).map_err(in_trace)?;
+    }
+    Ok(())
+}
+
+fn in_trace(claim: String) -> String {
+    format!("the reference's own trace breaks {claim}")
 }
 
 fn compare(program: &str, file: &[u8], number: u64, reached: &mut Coverage) -> Result<(), String> {
@@ -103,13 +135,13 @@ fn compare(program: &str, file: &[u8], number: u64, reached: &mut Coverage) -> R
         }
     };
     let played = reference::play(&parts);
-    let in_trace = |claim| format!("the reference's own trace breaks {claim}");
-    claims(&played).map_err(in_trace)?;
+    let lines = reference::lines(&parts, &played);
+    claims(&played, &lines).map_err(in_trace)?;
     cover(&played, reached);
     cover_rows(&parts, &played, reached);
     cover_numbers(&parts, &played, reached);
     cover_departments(&parts, &played, reached);
-    let lines = reference::lines(&parts, &played);
+    cover_withdrawals(&parts, &played, reached);
     prints(program, file, pieces, &lines)?;
     for out in DEPARTMENTS.into_iter().filter(|_| parts.version == 2) {
         let left = left(&parts, &played, out);
@@ -184,7 +216,7 @@ fn without(file: &[u8], parts: &Parts, lines: &str, left: &[(Step, Said)], out: 
     let mut expected: Vec<String> = lines.lines().map(String::from).collect();
     for (s, department) in parts.stations().into_iter().enumerate() {
         if department == out {
-            expected[1 + s] = format!("station {s} idle 0 0");
+            expected[1 + s] = format!("station {s} idle 0 none");
         }
     }
     expected[1 + parts.m] = format!("end {} 0\n", left.len());
@@ -217,8 +249,9 @@ struct History {
 }
 
 /// Demand 3's safety claims on the whole history of each department, read off the accepted steps and what they said: an attempt is its
-/// begin, its department that of its station, and a number means its last begin. An error starts with the name of the claim.
-fn claims(played: &Played) -> Result<(), String> {
+/// begin, its department that of its station, and a number means its last begin. A revision is any number, 0 too. What a station decided is
+/// shown on the floor and by the last word of its line. An error starts with the name of the claim.
+fn claims(played: &Played, lines: &str) -> Result<(), String> {
     let department = |station: usize| played.floor.stations[station].department;
     let mut histories: [History; 2] = Default::default();
     // the attempt that each number means: its department and its place in that history
@@ -253,8 +286,10 @@ fn claims(played: &Played) -> Result<(), String> {
     for (number, s) in played.floor.stations.iter().enumerate() {
         let decided = &histories[s.department as usize].decided;
         let said = decided.iter().find(|(station, _)| *station == number).map(|(_, v)| *v);
-        if s.decided != said {
-            return Err(format!("shown: station {number} shows {:?} and {said:?} was said", s.decided));
+        let word = said.map_or("none".to_string(), |v| v.to_string());
+        let printed = lines.lines().nth(1 + number).and_then(|line| line.rsplit(' ').next());
+        if s.decided != said || printed != Some(word.as_str()) {
+            return Err(format!("shown: station {number} shows {:?}, its line ends with {printed:?}, and {said:?} was said", s.decided));
         }
     }
     Ok(())
@@ -552,6 +587,142 @@ fn kept(floor: &Floor, department: Department, rank: u32, all: &mut BTreeSet<Str
     }
 }
 
+/// How the lines of the coverage about withdrawals start: offers of revision 0, and decisions of it. The 4,000 files reach each of them.
+const WITHDRAWAL: &str = "withdrawal: ";
+
+/// What a played file reached of withdrawals. Its steps are played again, the refused one too. A line that it does not reach is counted 0
+/// times.
+fn cover_withdrawals(parts: &Parts, played: &Played, reached: &mut Coverage) {
+    let mut all: BTreeMap<&str, bool> = BTreeMap::new();
+    let mut floor = Floor::new(parts.n, &parts.stations());
+    // the rows given back
+    let mut again: BTreeSet<usize> = BTreeSet::new();
+    for (at, record) in parts.records.clone().take(played.trace.len() + 1).enumerate() {
+        let Ok(step) = decode(record) else { break };
+        if let (Step::Begin { station, .. }, Some(_)) = (step, played.trace.get(at)) {
+            again.extend(floor.next_row(floor.stations[station].department).filter(|row| floor.rows.contains_key(row)));
+        }
+        let now = match step {
+            Step::Begin { station, round, revision } => withdrawal_begins(&mut floor, step, station, round, revision),
+            Step::Serve { phase, attempt, at } => withdrawal_served(&mut floor, step, phase, attempt, at),
+            Step::Deliver { phase, attempt, .. } => withdrawal_delivered(&mut floor, step, phase, attempt, again.contains(&attempt)),
+            Step::Stop { .. } | Step::Gone { .. } => {
+                let _ = floor.step(step);
+                Vec::new()
+            }
+        };
+        for (what, holds) in now {
+            *all.entry(what).or_insert(false) |= holds;
+        }
+    }
+    let at_the_end = |state: Option<State>, decided| {
+        floor.stations.iter().any(|s| s.decided == decided && state.map_or(true, |state| state == s.state))
+    };
+    let zero = at_the_end(None, Some(0));
+    let [sails, canvas] = DEPARTMENTS.map(|d| floor.stations.iter().filter(|s| s.department == d).find_map(|s| s.decided));
+    let cut = |decided: Option<u32>| decided.is_some_and(|v| v != 0);
+    all.extend([
+        ("decided, its station gone since", at_the_end(Some(State::Gone), Some(0))),
+        ("decided, another station idle with none", zero && at_the_end(Some(State::Idle), None)),
+        ("decided, another station reading with none", zero && floor.stations.iter().any(|s| matches!(s.state, State::Reading(_)))),
+        ("decided, another station writing with none", zero && floor.stations.iter().any(|s| matches!(s.state, State::Writing(_)))),
+        ("decided, another station gone with none", zero && at_the_end(Some(State::Gone), None)),
+        ("decided in sails, a revision to cut in canvas", sails == Some(0) && cut(canvas)),
+        ("decided in canvas, a revision to cut in sails", canvas == Some(0) && cut(sails)),
+        ("decided in both departments", sails == Some(0) && canvas == Some(0)),
+    ]);
+    for (what, holds) in all {
+        *reached.entry(format!("{WITHDRAWAL}{what}")).or_insert(0) += holds as usize;
+    }
+}
+
+/// A begin, which may be a withdrawal, of a station that may have decided one, in a row that may be one's that did.
+fn withdrawal_begins(floor: &mut Floor, step: Step, station: usize, round: u32, revision: u32) -> Vec<(&'static str, bool)> {
+    let was = floor.stations.get(station).cloned();
+    let department = was.as_ref().map_or(Department::Sails, |s| s.department);
+    let used = floor.used(department);
+    let old = floor.next_row(department).and_then(|row| floor.rows.get(&row)).map(|a| (a.station, a.rank, a.offer));
+    let said = floor.step(step);
+    let (last, decided) = was.map_or((0, None), |s| (s.last_round, s.decided));
+    let (zero, begun) = (revision == 0, said.is_ok());
+    let decider = |(s, rank, _): (usize, u32, u32)| floor.stations[s].decided == Some(0) && floor.stations[s].last_rank == rank;
+    vec![
+        ("begun", zero && begun),
+        ("begun in the station's first round", zero && begun && last == 0),
+        ("begun in round 65,535", zero && begun && round == 65_535),
+        ("begun in a row given back", zero && begun && old.is_some()),
+        ("begun in the 64th row", zero && begun && used == ROWS - 1),
+        ("a row given back that had one offered", begun && old.is_some_and(|(_, _, offer)| offer == 0)),
+        ("a row given back of an attempt that decided one", begun && old.is_some_and(decider)),
+        ("refusal  8 to its begin", zero && said == Err(8)),
+        ("refusal  9 to its begin", zero && said == Err(9)),
+        ("refusal 10 to its begin", zero && said == Err(10)),
+        ("refusal 11 to its begin, round 0", zero && said == Err(11) && round == 0),
+        ("refusal 11 to its begin, the last round again", zero && said == Err(11) && round > 0 && round == last),
+        ("refusal 11 to a revision's begin", !zero && said == Err(11)),
+        ("refusal 12 to its begin", zero && said == Err(12)),
+        ("refusal  9 to a begin of a station that decided one", said == Err(9) && decided == Some(0)),
+        ("refusal 10 to a begin of a station that decided one", said == Err(10) && decided == Some(0)),
+    ]
+}
+
+/// A request served at a box that holds a withdrawal, or that takes one.
+fn withdrawal_served(floor: &mut Floor, step: Step, phase: Phase, row: usize, at: usize) -> Vec<(&'static str, bool)> {
+    let department = Department::of_row(row);
+    let was = floor.boxes.get(at).map(|b| b.register(department).clone());
+    let served = floor.step(step).is_ok();
+    let (Some(was), true) = (was, served) else { return Vec::new() };
+    let (rank, held) = (floor.rows[&row].rank, floor.boxes[at].register(department).held);
+    let (read, write) = (phase == Phase::Read, phase == Phase::Write);
+    let taken = write && held != was.held;
+    // the write rank alone makes the answer
+    let behind = was.read_rank <= rank && was.held.is_some_and(|(r, v)| r > rank && v == 0);
+    let value = |held: reference::Held| held.map(|(_, v)| v);
+    vec![
+        ("taken by a box that held nothing", taken && value(held) == Some(0) && was.held.is_none()),
+        ("taken by a box that held a revision to cut", taken && value(held) == Some(0) && value(was.held).is_some_and(|v| v != 0)),
+        ("taken by a box that held one", taken && value(held) == Some(0) && value(was.held) == Some(0)),
+        ("held, and a revision taken in its place", taken && value(held) != Some(0) && value(was.held) == Some(0)),
+        ("held, and a read outranked by its rank alone", read && behind),
+        ("held, and a write not taken for its rank alone", write && behind),
+        ("not taken", write && !taken && floor.rows[&row].written == Some(0)),
+    ]
+}
+
+/// An answer delivered, in a row given back or not: what a station found that read, and how an attempt ended.
+fn withdrawal_delivered(floor: &mut Floor, step: Step, phase: Phase, row: usize, again: bool) -> Vec<(&'static str, bool)> {
+    let said = floor.step(step);
+    let Some(a) = floor.rows.get(&row) else { return Vec::new() };
+    let (zero, written) = (a.offer == 0, a.written);
+    let issued = if let Ok(Said::WriteIssued(v)) = said { Some(v) } else { None };
+    // what the boxes that answered hold, where the write is issued
+    let found = a.reads.iter().filter_map(|r| if let Request::Received(Answer::Holds(held)) = r { Some(*held) } else { None });
+    let found: Vec<Option<u32>> = if issued.is_some() { found.map(|held| held.map(|(_, v)| v)).collect() } else { Vec::new() };
+    let (none, one, cut) = (found.contains(&None), found.contains(&Some(0)), found.iter().any(|v| v.is_some_and(|v| v != 0)));
+    let department = Department::of_row(row);
+    let taken = a.writes.iter().filter(|w| **w == Request::Received(true)).count();
+    let aborted = matches!(said, Ok(Said::Aborted(_)));
+    let decided = if let Ok(Said::Decided(v)) = said { Some(v) } else { None };
+    let deciders = || floor.stations.iter().filter(|s| s.department == department && s.decided.is_some()).count();
+    vec![
+        ("its station finds nothing", zero && issued == Some(0) && !one && !cut),
+        ("its station finds one", zero && issued == Some(0) && one),
+        ("its station finds a revision to cut", zero && issued.is_some_and(|v| v != 0)),
+        ("found by a station that offers a revision", !zero && issued == Some(0)),
+        ("found beside a box that holds nothing", issued == Some(0) && one && none),
+        ("found beside a revision of a lower rank", issued == Some(0) && one && cut),
+        ("found beside a revision of a higher rank", issued.is_some_and(|v| v != 0) && one),
+        ("aborted at a read", zero && aborted && phase == Phase::Read),
+        ("aborted at a write", aborted && phase == Phase::Write && written == Some(0)),
+        ("aborted at a write that some box took", aborted && phase == Phase::Write && written == Some(0) && taken > 0),
+        ("decided by a station that offered it", zero && decided == Some(0)),
+        ("decided by a station that offered a revision", !zero && decided == Some(0)),
+        ("decided by a second station", decided == Some(0) && deciders() > 1),
+        ("decided in a row given back", decided == Some(0) && again),
+        ("a revision to cut decided by a station that withdraws", zero && decided.is_some_and(|v| v != 0)),
+    ]
+}
+
 /// What the bytes before the records reached: versions, sizes at the limits, and 22 with its neighbours. What is wrong with them is looked
 /// for apart from the reference.
 fn cover_head(file: &[u8], reached: &mut Coverage) {
@@ -721,6 +892,7 @@ fn cover_deletion(played: &Played, left: &[(Step, Said)], out: Department, reach
         ("more than 64 attempts left", begins > ROWS),
         ("more than 64 attempts left, more than 64 taken out", begins > ROWS && begun(played, out).len() > ROWS),
         ("a decision left", any(&|said| matches!(said, Said::Decided(_)))),
+        ("a decision of a withdrawal left", any(&|said| *said == Said::Decided(0))),
         ("an abort left", any(&|said| matches!(said, Said::Aborted(_)))),
     ] {
         if holds {

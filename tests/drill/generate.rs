@@ -1,5 +1,6 @@
-//! Pseudo-random drill files from a seed, of both versions: long runs with much contention, runs through more attempts than there are rows,
-//! and damaged files of every kind; and parts for the writer. The same seed and the same number always give the same.
+//! Pseudo-random drill files from a seed, of both versions: long runs with much contention, runs of withdrawals beside revisions that are
+//! cut, runs through more attempts than there are rows, and damaged files of every kind; and parts for the writer. The same seed and the
+//! same number always give the same.
 #![allow(dead_code)]
 
 use crate::reference::{Attempt, Department, Floor, Phase, Register, Request, Said, State, Step, DEPARTMENTS, ROWS};
@@ -9,7 +10,8 @@ pub struct Random(u64);
 
 impl Random {
     pub fn new(seed: u64, number: u64) -> Random {
-        let mut r = Random(seed ^ number.wrapping_mul(0x9E37_79B9_7F4A_7C15) | 1);
+        // the state is odd, so never 0; each seed gives others
+        let mut r = Random(seed.wrapping_mul(2) ^ number.wrapping_mul(0x9E37_79B9_7F4A_7C15) | 1);
         for _ in 0..8 {
             r.next();
         }
@@ -44,7 +46,7 @@ impl Random {
 /// The file of that number.
 pub fn file(seed: u64, number: u64) -> Vec<u8> {
     let r = &mut Random::new(seed, number);
-    match number % 31 {
+    match number % 34 {
         0..=9 => run(r),
         10..=11 => at_few_boxes(r),
         12..=14 => damaged(r),
@@ -54,6 +56,7 @@ pub fn file(seed: u64, number: u64) -> Vec<u8> {
         19 => wild_records(r),
         20 => noise(r),
         21..=22 => miscalled(r),
+        23..=25 => withdrawals(r),
         _ => given_back(r),
     }
 }
@@ -218,6 +221,8 @@ struct Habit {
     spared: usize,
     /// how often a begin does not outrank the others, in percent
     low: usize,
+    /// how often an offer is a withdrawal, in percent
+    withdrawn: usize,
     /// where requests are served at no more boxes than they need: a number that chooses the boxes, and the station from which on all begin
     /// in high rounds and read at one box alone
     few: Option<(u64, usize)>,
@@ -237,11 +242,16 @@ fn habit(r: &mut Random) -> Habit {
         late: r.pick(&[0, 30, 80, 95, 100]),
         spared: r.pick(&[0, 0, 50, 90, 100]),
         low: r.pick(&[0, 0, 5, 40]),
+        withdrawn: r.pick(&[0, 0, 10, 30, 50]),
         few: None,
     }
 }
 
-fn revision(r: &mut Random) -> u32 {
+/// An offer; how often it is a withdrawal, revision 0, in percent.
+fn revision(r: &mut Random, withdrawn: usize) -> u32 {
+    if r.percent(withdrawn) {
+        return 0;
+    }
     match r.below(10) {
         0..=3 => r.between(1, 9) as u32,
         4 => u32::MAX,
@@ -249,9 +259,9 @@ fn revision(r: &mut Random) -> u32 {
     }
 }
 
-/// A begin of one of these departments that the floor accepts; how often it does not outrank the others of its department, in percent. The
-/// two departments so go through the same rounds.
-fn begin(r: &mut Random, floor: &Floor, of: &[Department], low: usize) -> Option<Step> {
+/// A begin of one of these departments that the floor accepts; how often it does not outrank the others of its department, and how often it
+/// is a withdrawal, in percent. The two departments so go through the same rounds.
+fn begin(r: &mut Random, floor: &Floor, of: &[Department], low: usize, withdrawn: usize) -> Option<Step> {
     let of: Vec<Department> = of.iter().copied().filter(|d| floor.next_row(*d).is_some()).collect();
     let idle: Vec<usize> = (0..floor.stations.len())
         .filter(|s| floor.stations[*s].state == State::Idle && floor.stations[*s].last_round < 65_535)
@@ -275,7 +285,7 @@ fn begin(r: &mut Random, floor: &Floor, of: &[Department], low: usize) -> Option
     } else {
         top.max(next)
     };
-    Some(Step::Begin { station, round: round.min(65_535), revision: revision(r) })
+    Some(Step::Begin { station, round: round.min(65_535), revision: revision(r, withdrawn) })
 }
 
 fn would_take(register: &Register, a: &Attempt) -> bool {
@@ -338,7 +348,7 @@ fn accepted(r: &mut Random, floor: &Floor, h: &Habit) -> Option<Step> {
             by_kind[4].push(Step::Gone { station: s });
         }
     }
-    let fresh = begin(r, floor, &DEPARTMENTS, h.low).map(|step| raised(h, step));
+    let fresh = begin(r, floor, &DEPARTMENTS, h.low, h.withdrawn).map(|step| raised(h, step));
     let weights = [
         h.serve[0] * !by_kind[0].is_empty() as usize,
         h.serve[1] * !by_kind[1].is_empty() as usize,
@@ -382,7 +392,7 @@ fn about(r: &mut Random, floor: &Floor) -> Step {
         0 | 1 => {
             let last = floor.stations.get(station).map_or(0, |s| s.last_round);
             let round = r.pick(&[0, last, last + 1, last + 1, 65_535]).min(65_535);
-            Step::Begin { station, round, revision: if r.percent(20) { 0 } else { revision(r) } }
+            Step::Begin { station, round, revision: revision(r, 40) }
         }
         2 | 3 => Step::Serve { phase, attempt, at: b },
         4 => Step::Deliver { phase, attempt, from: b },
@@ -401,6 +411,29 @@ fn not_begun(r: &mut Random, floor: &Floor) -> Step {
     let attempt = r.pick(&[floor.used(Department::Sails), 64 + floor.used(Department::Canvas), 63, 64, 65, 127, 128, 129, 192, 255]);
     let (b, phase) = (r.below(floor.boxes.len()), if r.percent(50) { Phase::Read } else { Phase::Write });
     if r.percent(50) { Step::Serve { phase, attempt, at: b } } else { Step::Deliver { phase, attempt, from: b } }
+}
+
+/// A begin of a station that has decided a withdrawal, which refusal 9 or 10 turns back: the station is gone, or it is not. With no row for
+/// a begin in some departments its station is of one of these.
+fn begun_again(r: &mut Random, floor: &Floor, refusal: u8, full: &[Department]) -> Option<Step> {
+    let state = match refusal {
+        9 => State::Gone,
+        10 => State::Decided,
+        _ => return None,
+    };
+    let wanted = |s: &usize| floor.stations[*s].state == state && (full.is_empty() || full.contains(&floor.stations[*s].department));
+    let stations: Vec<usize> = withdrew(floor).into_iter().filter(wanted).collect();
+    if stations.is_empty() {
+        return None;
+    }
+    let station = r.pick(&stations);
+    let round = (floor.stations[station].last_round + 1).min(65_535);
+    Some(Step::Begin { station, round, revision: revision(r, 50) })
+}
+
+/// The stations that have decided a withdrawal.
+fn withdrew(floor: &Floor) -> Vec<usize> {
+    (0..floor.stations.len()).filter(|s| floor.stations[*s].decided == Some(0)).collect()
 }
 
 /// A record that the floor turns back with that refusal, where there is one. With no row for a begin it is a begin of such a department or
@@ -426,6 +459,9 @@ fn turned_back(r: &mut Random, floor: &Floor, refusal: u8) -> Option<[u8; 8]> {
     if refusal == 12 && full.is_empty() {
         return None;
     }
+    if let Some(step) = begun_again(r, floor, refusal, &full).filter(|_| r.percent(50)) {
+        return Some(encode(step));
+    }
     let beyond = refusal == 8 && r.percent(if full.is_empty() { 60 } else { 30 });
     let wanted = |step: &Step| match step {
         Step::Begin { station, .. } => full.is_empty() || floor.stations.get(*station).map_or(true, |s| full.contains(&s.department)),
@@ -444,6 +480,13 @@ fn turned_back(r: &mut Random, floor: &Floor, refusal: u8) -> Option<[u8; 8]> {
         }
     }
     None
+}
+
+/// A station that goes, more often than others one that has decided a withdrawal.
+fn leaver(r: &mut Random, floor: &Floor) -> Step {
+    let withdrew = withdrew(floor);
+    let station = if withdrew.is_empty() || r.percent(50) { r.below(floor.stations.len()) } else { r.pick(&withdrew) };
+    Step::Gone { station }
 }
 
 fn sizes(r: &mut Random) -> (usize, usize) {
@@ -482,7 +525,7 @@ fn run(r: &mut Random) -> Vec<u8> {
         let refusal = if !full(&floor).is_empty() && r.percent(70) { 12 } else { r.between(7, 14) as u8 };
         // a station that is gone for refusal 9, a box that has stopped for refusal 13
         let first = match refusal {
-            9 => Some(Step::Gone { station: r.below(head.m()) }),
+            9 => Some(leaver(r, &floor)),
             13 => Some(Step::Stop { at: r.below(head.n) }),
             _ => None,
         };
@@ -515,6 +558,124 @@ fn at_few_boxes(r: &mut Random) -> Vec<u8> {
     frame(&head, &name, &records)
 }
 
+/// A short run in which many offers are withdrawals. It starts with a contest in each department, or in none. Then attempts are driven at
+/// some boxes, one behind the other, and left for a while or for good: behind a begin, the reads, or a write at too few boxes. So the boxes
+/// hold withdrawals and revisions of several ranks, which are found, outranked and written over. A station that has decided may go, and a
+/// last record may be turned back.
+fn withdrawals(r: &mut Random) -> Vec<u8> {
+    let (n, version) = (r.pick(&[1, 2, 3, 3, 3, 3, 3, 4, 5, 5, 7]), version(r) as usize);
+    let departments: Vec<u8> = (0..version * r.between(3, 5)).map(|s| (s % version) as u8).collect();
+    let head = Head { version: version as u8, n, departments };
+    let (low, withdrawn, gone) = (r.pick(&[0, 0, 30, 60]), r.pick(&[30, 50, 80]), r.pick(&[0, 3, 10]));
+    let (mut floor, mut records) = (head.floor(), Vec::new());
+    if r.percent(65) {
+        contests(r, &mut floor, &mut records, version);
+    }
+    for _ in 0..version * r.between(1, 16) {
+        if r.percent(gone) {
+            let step = leaver(r, &floor);
+            if floor.step(step).is_ok() {
+                records.push(encode(step));
+            }
+        }
+        let row = match begin(r, &floor, &DEPARTMENTS, low, withdrawn).filter(|_| r.percent(40)) {
+            Some(step) => {
+                let Ok(Said::Begun(row)) = floor.step(step) else { continue };
+                records.push(encode(step));
+                Some(row)
+            }
+            None => left_open(r, &floor),
+        };
+        let Some(row) = row else { continue };
+        for phase in [Phase::Read, Phase::Write].into_iter().take(r.below(3)) {
+            let (first, boxes) = (r.below(n), r.pick(&[1, 1, floor.quorum(), floor.quorum(), floor.quorum(), n]));
+            drive(&mut floor, &mut records, row, phase, first, boxes);
+        }
+    }
+    if r.percent(60) {
+        let refusal = r.pick(&[8, 9, 9, 9, 10, 10, 11, 11, 14]);
+        if let Some(record) = turned_back(r, &floor, refusal) {
+            records.push(record);
+            more(r, &floor, &mut records);
+        }
+    }
+    let length = r.between(1, 32);
+    let name = label(r, length);
+    frame(&head, &name, &records)
+}
+
+/// What is done in a contest: the next attempt of its department is begun, or a request of one, by its number in the contest, is served and
+/// answered at so many boxes from one on.
+#[derive(Clone, Copy)]
+enum Act {
+    Begin { revision: u32 },
+    Drive { by: usize, phase: Phase, first: usize, boxes: usize },
+}
+
+/// Three attempts of one department: a withdrawal and a revision to cut, in either order, and a third. The first is left behind its reads,
+/// or with its write at fewer boxes than q. The second outranks it, mostly at other boxes, and writes; where the first has not written it
+/// does so behind that. The third finds what they left.
+fn contest(r: &mut Random, n: usize) -> Vec<Act> {
+    let (q, at) = (n / 2 + 1, r.below(n));
+    let elsewhere = |r: &mut Random| if r.percent(75) { (at + 1) % n } else { r.below(n) };
+    let drive = |by, phase, first, boxes| Act::Drive { by, phase, first, boxes };
+    let cut = revision(r, 0);
+    let (one, other) = if r.percent(50) { (0, cut) } else { (cut, 0) };
+    let early = r.percent(50);
+    let mut acts = vec![Act::Begin { revision: one }, drive(0, Phase::Read, at, q)];
+    if early {
+        acts.push(drive(0, Phase::Write, at, r.below(q)));
+    }
+    acts.extend([Act::Begin { revision: other }, drive(1, Phase::Read, elsewhere(r), q)]);
+    let first = if early { elsewhere(r) } else { r.below(n) };
+    acts.push(drive(1, Phase::Write, first, q));
+    if !early {
+        acts.push(drive(0, Phase::Write, at, r.pick(&[1, q, n])));
+    }
+    acts.push(Act::Begin { revision: revision(r, 50) });
+    acts.extend([Phase::Read, Phase::Write].map(|phase| drive(2, phase, r.below(n), q)));
+    acts
+}
+
+/// A contest in each department, the acts of the two in any order.
+fn contests(r: &mut Random, floor: &mut Floor, records: &mut Vec<[u8; 8]>, departments: usize) {
+    let mut acts: Vec<_> = (0..departments).map(|_| contest(r, floor.boxes.len()).into_iter()).collect();
+    let mut rows: [Vec<usize>; 2] = Default::default();
+    while acts.iter().any(|left| left.len() > 0) {
+        let d = r.below(departments);
+        match acts[d].next() {
+            Some(Act::Begin { revision }) => {
+                // the stations of the departments stand in turn; each begins a round above the one before
+                let (station, round) = (rows[d].len() * departments + d, rows[d].len() as u32 + 1);
+                let step = Step::Begin { station, round, revision };
+                let Ok(Said::Begun(row)) = floor.step(step) else { return };
+                records.push(encode(step));
+                rows[d].push(row);
+            }
+            Some(Act::Drive { by, phase, first, boxes }) => drive(floor, records, rows[d][by], phase, first, boxes),
+            None => {}
+        }
+    }
+}
+
+/// The row of an attempt whose station reads or writes in it.
+fn left_open(r: &mut Random, floor: &Floor) -> Option<usize> {
+    let open: Vec<usize> = floor.rows.keys().copied().filter(|row| !floor.over(*row)).collect();
+    if open.is_empty() { None } else { Some(r.pick(&open)) }
+}
+
+/// Serves a request of an attempt and delivers the answer at so many boxes from one on, one behind the other, where these are accepted.
+fn drive(floor: &mut Floor, records: &mut Vec<[u8; 8]>, row: usize, phase: Phase, first: usize, boxes: usize) {
+    let n = floor.boxes.len();
+    for b in (first..n).chain(0..first).take(boxes) {
+        for step in [Step::Serve { phase, attempt: row, at: b }, Step::Deliver { phase, attempt: row, from: b }] {
+            if floor.step(step).is_ok() {
+                records.push(encode(step));
+            }
+        }
+    }
+}
+
 /// Some records behind one that is turned back, now and then as many as a file may have.
 fn more(r: &mut Random, floor: &Floor, records: &mut Vec<[u8; 8]>) {
     for _ in 0..r.below(20) {
@@ -535,6 +696,8 @@ struct Wear {
     wanted: [usize; 4],
     /// how often a begin does not outrank the others, in percent
     low: usize,
+    /// how often an offer is a withdrawal, in percent
+    withdrawn: usize,
     /// how often a write that the box would take is put off, in percent
     late: usize,
     /// how often the requests of an attempt are served as soon as it is over, in percent
@@ -579,6 +742,7 @@ fn wear(r: &mut Random, n: usize, m: usize) -> Wear {
     Wear {
         wanted: [r.between(2, 8), r.between(4, 16), served, r.pick(&[0, 1, 2])],
         low: r.pick(&[0, 10, 50, 90]),
+        withdrawn: r.pick(&[0, 10, 30, 60]),
         late: r.pick(&[100, 100, 99, 99, 97, 90]),
         cleared,
         but_one,
@@ -590,7 +754,8 @@ fn wear(r: &mut Random, n: usize, m: usize) -> Wear {
 
 /// As many attempts as fit into a file: each is soon over and its row free at once.
 fn brisk(r: &mut Random) -> Wear {
-    Wear { wanted: [6, 8, 0, 0], low: r.pick(&[0, 50, 90]), late: 100, cleared: 100, but_one: 0, but_at: None, stop: 0, gone: 0 }
+    let (low, withdrawn) = (r.pick(&[0, 50, 90]), r.pick(&[0, 50]));
+    Wear { wanted: [6, 8, 0, 0], low, withdrawn, late: 100, cleared: 100, but_one: 0, but_at: None, stop: 0, gone: 0 }
 }
 
 /// The serves of an attempt that the floor accepts.
@@ -665,7 +830,7 @@ fn worn(r: &mut Random, floor: &Floor, shared: &Shared, pressed: bool) -> Option
         kind += 1;
     }
     if kind == 0 {
-        return begin(r, floor, &[department], w.low);
+        return begin(r, floor, &[department], w.low, w.withdrawn);
     }
     if kind == 1 {
         let busy: Vec<(usize, Phase)> = floor
@@ -767,7 +932,7 @@ fn clear(r: &mut Random, w: &Wear, floor: &mut Floor, records: &mut Vec<[u8; 8]>
 fn belated(r: &mut Random, floor: &mut Floor, records: &mut Vec<[u8; 8]>) {
     let worn: Vec<Department> = DEPARTMENTS.into_iter().filter(|d| floor.used(*d) == ROWS).collect();
     let of = if worn.is_empty() { &DEPARTMENTS[..] } else { &worn };
-    let Some(step) = begin(r, floor, of, 0) else { return };
+    let Some(step) = begin(r, floor, of, 0, 30) else { return };
     let Some((row, answers)) = dropped(floor, step) else { return };
     floor.step(step).expect("a station is idle and a row unused or free");
     records.push(encode(step));
@@ -841,8 +1006,8 @@ fn given_back(r: &mut Random) -> Vec<u8> {
 fn worn_end(r: &mut Random, floor: &mut Floor, records: &mut Vec<[u8; 8]>, full: bool) {
     let refusal = if full { r.pick(&[12, 12, 12, 12, 12, 11, 11, 10, 9, 9, 8]) } else { r.pick(&[14, 14, 14, 13, 11, 10, 9, 8, 8]) };
     let first = match refusal {
-        9 => Some(Step::Gone { station: r.below(floor.stations.len()) }),
-        _ if full => begin(r, floor, &DEPARTMENTS, 0),
+        9 => Some(leaver(r, floor)),
+        _ if full => begin(r, floor, &DEPARTMENTS, 0, 30),
         _ => None,
     };
     if let Some(step) = first.filter(|step| floor.step(*step).is_ok()) {

@@ -73,7 +73,8 @@ pub enum Request<A> {
     Received(A),
 }
 
-/// A write that a box took: its rank and its revision.
+/// A write that a box took: its rank and its revision, which may be 0. Document 02, wish 7: a box holds nothing exactly while its write
+/// rank is 0, and no rank that is begun is 0.
 pub type Held = Option<(u32, u32)>;
 
 /// What a box answers to a read. Document 02, wish 2: what it holds, or that the read is outranked.
@@ -112,6 +113,7 @@ pub struct Station {
     pub state: State,
     pub last_round: u32,
     pub last_rank: u32,
+    /// Document 02, wish 7: whether it decided, and what; 0 is a revision.
     pub decided: Option<u32>,
 }
 
@@ -252,7 +254,8 @@ impl Floor {
             State::Reading(_) | State::Writing(_) | State::Decided => return Err(10),
             State::Idle => {}
         }
-        if revision == 0 || round == 0 || round <= s.last_round {
+        // document 02, wish 7: whatever the revision
+        if round == 0 || round <= s.last_round {
             return Err(11);
         }
         let number = self.next_row(s.department).ok_or(12)?;
@@ -515,7 +518,8 @@ pub fn lines(parts: &Parts, played: &Played) -> String {
             State::Decided => "decided",
             State::Gone => "gone",
         };
-        writeln!(out, "station {number} {state} {} {}", s.last_rank, s.decided.unwrap_or(0)).unwrap();
+        let decided = s.decided.map_or("none".to_string(), |revision| revision.to_string());
+        writeln!(out, "station {number} {state} {} {decided}", s.last_rank).unwrap();
     }
     writeln!(out, "end {} {}", played.trace.len(), played.refusal).unwrap();
     out

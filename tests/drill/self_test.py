@@ -2,8 +2,8 @@
 processors.
 
 The comparison, which uses the right reference, has to tell the faulty program from it, by what it prints or by how it ends. Where the
-fault names a claim that it breaks, one of demand 3 or the deletion, a comparison that uses the faulty reference, as its program too, has
-to find that claim broken. A fault of the writer is put into the reference that the writer is compared with, and write.rs has to find the
+fault names a claim that it breaks, one of demand 3 or the deletion, a comparison that uses the faulty reference, with no program, has to
+find that claim broken. A fault of the writer is put into the reference that the writer is compared with, and write.rs has to find the
 two different. `full` looks for a broken claim with the other faults too, wants none, and prints a line for each fault.
 """
 import concurrent.futures
@@ -38,8 +38,8 @@ def first_difference(compare, program, left, *claim):
 def broken_claim(folder, claim):
     """The claim that a comparison on the faulty reference finds broken, if any; where one is named, that one."""
     rustc(folder, "compare", 1 if full else 0)
-    said = first_difference(folder / "compare", folder / "reference", folder / "left", *([claim] if claim else []))
-    found = re.search(r"(?:the reference's own trace|the program) breaks (\w+):", said)
+    said = first_difference(folder / "compare", "-", folder / "left", claim or "claims")
+    found = re.search(r"the reference's own trace breaks (\w+):", said)
     return found[1] if found else ""
 
 

@@ -1,6 +1,6 @@
 /* Calls frame_read, frame_write and box_serve as box firmware does, and compares answer, numbers stored and memory with wish 3 of
- * document 02, and with "The box routine" of document 01 as wish 2 changes it. Prints the number of checks made, or the first that
- * fails, with exit status 1. Valid C99 and C++11. */
+ * document 02, in which wish 7 makes 0 a revision, and with "The box routine" of document 01 as wish 2 changes it. Prints the number of
+ * checks made, or the first that fails, with exit status 1. Valid C99 and C++11. */
 #include "box_firmware.h"
 
 #include "check.h"
@@ -23,7 +23,7 @@ enum {
     KIND_1, KIND_2, KIND_3, KIND_4, KIND_5, KIND_6,                          /* accepted */
     LENGTH_MISSING, LENGTH_PAST_INPUT, LENGTH_UNDER_2, LENGTH_NOT_THE_KINDS, /* 19 */
     OTHER_VERSION,                                                           /* 20 */
-    UNKNOWN_KIND, READ_RANK_0, WRITE_RANK_0, REVISION_0,                     /* 21 */
+    UNKNOWN_KIND, READ_RANK_0, WRITE_RANK_0,                                 /* 21 */
     NO_REQUEST,                                                              /* 21; this and those below come in serving only */
     RECORD_LENGTH,                                                           /* 16 */
     SHORT_FOR_3, SHORT_FOR_4, SHORT_FOR_5, SHORT_FOR_6,                      /* 18, by the kind of the answer */
@@ -40,7 +40,7 @@ static size_t fields(uint32_t kind) { return kind == 1 ? 1 : kind == 2 || kind =
 /* "a 2-byte length of the rest, version byte 1, a kind byte and 4-byte fields" */
 static size_t size_of(uint32_t kind) { return 2 + 1 + 1 + 4 * fields(kind); }
 
-/* The frame of a message, zeros in requests too, of which frames to be refused are made. Gives its size. */
+/* The frame of a message, rank 0 in requests too, of which frames to be refused are made. Gives its size. */
 static size_t put_frame(uint8_t *p, struct message m) {
     size_t size = size_of(m.kind);
     p[0] = (uint8_t)((size - 2) / 256);
@@ -80,9 +80,7 @@ static struct reading document_reads(const uint8_t *p, size_t len) {
     r.outcome = UNKNOWN_KIND;
     if (!known(p[3])) return r;
     r.outcome = p[3] == 1 ? READ_RANK_0 : WRITE_RANK_0;
-    if (p[3] <= 2 && get(p + 4) == 0) return r;
-    r.outcome = REVISION_0;
-    if (p[3] == 2 && get(p + 8) == 0) return r;
+    if (p[3] <= 2 && get(p + 4) == 0) return r; /* wish 7: 21 does not look at the revision */
     r.answer = 0;
     r.outcome = KIND_1 + p[3] - 1;
     r.m.kind = p[3];
@@ -98,7 +96,6 @@ static uint32_t document_writes(uint8_t *buffer, size_t buffer_len, struct messa
     *size = 0;
     if (!known(m.kind)) return 21;
     if (m.kind <= 2 && m.first == 0) return 21;
-    if (m.kind == 2 && m.second == 0) return 21;
     if (buffer_len < size_of(m.kind)) return 18;
     *size = put_frame(buffer, m);
     return 0;
@@ -280,10 +277,12 @@ static const struct {
     struct message m;
     size_t size;
     uint8_t frame[12];
-} frames[6] = {
+} frames[] = {
     {{1, 0xF1E2D3C4u, 0}, 8, {0x00, 0x06, 0x01, 0x01, 0xF1, 0xE2, 0xD3, 0xC4, 0, 0, 0, 0}},
     {{2, 0xF1E2D3C4u, 0xB5A69788u}, 12, {0x00, 0x0A, 0x01, 0x02, 0xF1, 0xE2, 0xD3, 0xC4, 0xB5, 0xA6, 0x97, 0x88}},
+    {{2, 0xF1E2D3C4u, 0}, 12, {0x00, 0x0A, 0x01, 0x02, 0xF1, 0xE2, 0xD3, 0xC4, 0, 0, 0, 0}},
     {{3, 0x1A2B3C4Du, 0x5E6F7081u}, 12, {0x00, 0x0A, 0x01, 0x03, 0x1A, 0x2B, 0x3C, 0x4D, 0x5E, 0x6F, 0x70, 0x81}},
+    {{3, 0x1A2B3C4Du, 0}, 12, {0x00, 0x0A, 0x01, 0x03, 0x1A, 0x2B, 0x3C, 0x4D, 0, 0, 0, 0}},
     {{4, 0, 0}, 4, {0x00, 0x02, 0x01, 0x04, 0, 0, 0, 0, 0, 0, 0, 0}},
     {{5, 0, 0}, 4, {0x00, 0x02, 0x01, 0x05, 0, 0, 0, 0, 0, 0, 0, 0}},
     {{6, 0, 0}, 4, {0x00, 0x02, 0x01, 0x06, 0, 0, 0, 0, 0, 0, 0, 0}},
@@ -343,7 +342,8 @@ static void single_bytes(void) {
             }
 }
 
-/* Zero but for one byte, or all zero: which bytes a request's rank and revision are compared with 0 by. A read answer may hold zeros. */
+/* Zero but for one byte, or all zero: which bytes a request's rank is compared with 0 by. Its revision is not looked at, and a read answer
+ * may hold zeros. */
 static void zeros(void) {
     uint32_t kind;
     size_t i, j;
@@ -352,7 +352,7 @@ static void zeros(void) {
             for (j = 0; j <= 4; j++) {
                 struct message m = {0, 0, 0};
                 uint8_t bytes[12];
-                uint32_t wanted = kind <= 2 && (i == 4 || (kind == 2 && j == 4)) ? 21 : 0;
+                uint32_t wanted = kind <= 2 && i == 4 ? 21 : 0;
                 m.kind = kind;
                 m.first = i == 4 ? 0 : (uint32_t)1 << 8 * i;
                 m.second = j == 4 ? 0 : (uint32_t)1 << 8 * j;
@@ -375,6 +375,7 @@ static void refused_inputs(void) {
         {19, 7, {0, 6, 1, 7, 0, 0, 0, 9}}, {19, 7, {0, 6, 1, 1, 0, 0, 0, 0}}, {19, 11, {0, 10, 1, 2, 0, 0, 0, 9, 0, 0, 0, 9}},
         {19, 11, {0, 10, 1, 3, 0, 0, 0, 9, 0, 0, 0, 9}}, {19, 12, {255, 255, 1, 2, 0, 0, 0, 9, 0, 0, 0, 9}},
         {19, 12, {255, 255, 2, 7, 0, 0, 0, 9, 0, 0, 0, 9}}, {19, 12, {10, 0, 1, 2, 0, 0, 0, 9, 0, 0, 0, 9}}, {19, 4, {2, 0, 1, 5}},
+        {19, 8, {0, 10, 1, 2, 0, 0, 0, 9, 0, 0, 0, 0}}, {19, 11, {0, 10, 1, 2, 0, 0, 0, 9, 0, 0, 0, 0}},
         /* "a frame too short for a kind", what stands behind it being no part of it */
         {19, 2, {0, 0}}, {19, 3, {0, 1, 1, 5}}, {19, 4, {0, 0, 1, 5}}, {19, 4, {0, 1, 1, 5}}, {19, 4, {0, 1, 2, 5}},
         {19, 4, {0, 1, 1, 7}}, {19, 4, {0, 0, 2, 7}}, {19, 8, {0, 1, 1, 1, 0, 0, 0, 0}},
@@ -386,7 +387,8 @@ static void refused_inputs(void) {
         {19, 14, {0, 12, 1, 2, 0, 0, 0, 9, 0, 0, 0, 9, 0, 0}}, {19, 14, {0, 12, 1, 3, 0, 0, 0, 9, 0, 0, 0, 9, 0, 0}},
         {19, 8, {0, 6, 1, 4, 0, 0, 0, 9}}, {19, 5, {0, 3, 1, 5, 0}}, {19, 6, {0, 4, 1, 6, 0, 0}}, {19, 8, {0, 2, 2, 1, 0, 0, 0, 9}},
         {19, 5, {0, 3, 2, 5, 0}}, {19, 12, {0, 10, 1, 1, 0, 0, 0, 0, 0, 0, 0, 0}}, {19, 8, {0, 6, 2, 2, 0, 0, 0, 0}},
-        {19, 14, {0, 12, 0, 2, 0, 0, 0, 9, 0, 0, 0, 0, 0, 0}},
+        {19, 14, {0, 12, 0, 2, 0, 0, 0, 9, 0, 0, 0, 0, 0, 0}}, {19, 13, {0, 11, 1, 2, 0, 0, 0, 9, 0, 0, 0, 0, 0}},
+        {19, 12, {0, 6, 1, 2, 0, 0, 0, 9, 0, 0, 0, 0}},
         /* "then 20 for another version", also with an unknown kind of any length, rank 0, revision 0 */
         {20, 4, {0, 2, 0, 5}}, {20, 4, {0, 2, 2, 5}}, {20, 4, {0, 2, 255, 5}}, {20, 6, {0, 2, 2, 6, 1, 1}},
         {20, 8, {0, 6, 2, 1, 0, 0, 0, 9}}, {20, 8, {0, 6, 2, 1, 0, 0, 0, 0}}, {20, 12, {0, 10, 2, 2, 0, 0, 0, 9, 0, 0, 0, 9}},
@@ -398,11 +400,14 @@ static void refused_inputs(void) {
         {21, 5, {0, 3, 1, 0, 9}}, {21, 5, {0, 3, 1, 7, 9}}, {21, 6, {0, 3, 1, 7, 9, 9}}, {21, 5, {0, 3, 1, 129, 9}},
         {21, 8, {0, 6, 1, 7, 0, 0, 0, 9}}, {21, 12, {0, 10, 1, 0, 0, 0, 0, 9, 0, 0, 0, 9}},
         {21, 13, {0, 11, 1, 8, 0, 0, 0, 9, 0, 0, 0, 9, 9}}, {21, 16, {0, 14, 1, 9, 0, 0, 0, 9, 0, 0, 0, 9, 0, 0, 0, 9}},
-        /* "or a rank or revision of 0 in a request" */
+        /* a rank of 0 in a request, with any revision */
         {21, 8, {0, 6, 1, 1, 0, 0, 0, 0}}, {21, 9, {0, 6, 1, 1, 0, 0, 0, 0, 9}}, {21, 12, {0, 10, 1, 2, 0, 0, 0, 0, 0, 0, 0, 9}},
-        {21, 12, {0, 10, 1, 2, 0, 0, 0, 9, 0, 0, 0, 0}}, {21, 12, {0, 10, 1, 2, 0, 0, 0, 0, 0, 0, 0, 0}},
-        {21, 14, {0, 10, 1, 2, 0, 0, 0, 9, 0, 0, 0, 0, 9, 9}},
-        /* not refused: zeros in a read answer, or behind a frame */
+        {21, 12, {0, 10, 1, 2, 0, 0, 0, 0, 255, 255, 255, 255}}, {21, 12, {0, 10, 1, 2, 0, 0, 0, 0, 0, 0, 0, 0}},
+        {21, 14, {0, 10, 1, 2, 0, 0, 0, 0, 0, 0, 0, 0, 9, 9}},
+        /* not refused: revision 0 */
+        {0, 12, {0, 10, 1, 2, 0, 0, 0, 9, 0, 0, 0, 0}}, {0, 14, {0, 10, 1, 2, 0, 0, 0, 9, 0, 0, 0, 0, 9, 9}},
+        {0, 12, {0, 10, 1, 2, 0, 0, 0, 1, 0, 0, 0, 0}}, {0, 16, {0, 10, 1, 2, 255, 255, 255, 255, 0, 0, 0, 0, 0, 0, 0, 0}},
+        /* nor zeros in a read answer, or behind a frame */
         {0, 12, {0, 10, 1, 3, 0, 0, 0, 0, 0, 0, 0, 0}}, {0, 12, {0, 10, 1, 3, 0, 0, 0, 9, 0, 0, 0, 0}},
         {0, 12, {0, 10, 1, 3, 0, 0, 0, 0, 0, 0, 0, 9}}, {0, 12, {0, 6, 1, 1, 0, 0, 0, 9, 0, 0, 0, 0}},
         {0, 8, {0, 2, 1, 4, 0, 0, 0, 0}}, {0, 4, {0, 2, 1, 5}}, {0, 5, {0, 2, 1, 6, 2}},
@@ -436,9 +441,10 @@ static void writer(void) {
                 CHECK(memcmp(buffer.now + AT, frames[i].frame, size) == 0);
             }
     }
-    /* 21 stands before 18 */
+    /* 21 stands before 18; revision 0 is not 21 */
     for (i = 0; i < COUNT_OF(lengths); i++) {
-        static const struct message zeros_in_requests[] = {{1, 0, 0}, {1, 0, 9}, {2, 0, 9}, {2, 9, 0}, {2, 0, 0}};
+        static const struct message rank_0[] = {{1, 0, 0}, {1, 0, 9}, {2, 0, 9}, {2, 0, 0xFFFFFFFFu}, {2, 0, 0}};
+        static const struct message revision_0[] = {{2, 1, 0}, {2, 9, 0}, {2, 0xFFFFFFFFu, 0}};
         for (j = 0; j < COUNT_OF(unknown_kinds); j++)
             for (k = 0; k < COUNT_OF(other); k++) {
                 struct message m = {0, 0, 0};
@@ -447,7 +453,9 @@ static void writer(void) {
                 m.second = other[3 - k];
                 CHECK(write_message(m, lengths[i], 0, __LINE__) == 21);
             }
-        for (j = 0; j < COUNT_OF(zeros_in_requests); j++) CHECK(write_message(zeros_in_requests[j], lengths[i], 0, __LINE__) == 21);
+        for (j = 0; j < COUNT_OF(rank_0); j++) CHECK(write_message(rank_0[j], lengths[i], 0, __LINE__) == 21);
+        for (j = 0; j < COUNT_OF(revision_0); j++)
+            CHECK(write_message(revision_0[j], lengths[i], 0, __LINE__) == (lengths[i] < 12 ? 18u : 0u));
     }
 }
 
@@ -461,13 +469,13 @@ static void pairs(void) {
     for (kind = 1; kind <= 6; kind++)
         for (i = 0; i < (fields(kind) >= 1 ? COUNT_OF(values) : 1); i++)
             for (j = 0; j < (fields(kind) >= 2 ? COUNT_OF(values) : 1); j++) {
-                if ((kind <= 2 && values[i] == 0) || (kind == 2 && values[j] == 0)) continue;
+                if (kind <= 2 && values[i] == 0) continue;
                 CHECK(n < COUNT_OF(all));
                 CHECK(frame_write(all[n].frame, 12, kind, values[i], values[j], &all[n].size) == 0);
                 CHECK(4 <= all[n].size && all[n].size <= FRAME_MOST_BYTES);
                 n++;
             }
-    CHECK(n == 12 + 12 * 12 + 13 * 13 + 3);
+    CHECK(n == 12 + 12 * 13 + 13 * 13 + 3);
     for (i = 0; i < n; i++)
         for (j = 0; j < i; j++) /* neither begins the other, nor are they the same */
             CHECK(memcmp(all[i].frame, all[j].frame, all[i].size < all[j].size ? all[i].size : all[j].size) != 0);
@@ -490,7 +498,7 @@ static struct message some_message(void) {
     struct message m = {0, 0, 0};
     m.kind = 1 + number() % 6;
     if (fields(m.kind) >= 1) do m.first = some_value(); while (m.kind <= 2 && m.first == 0);
-    if (fields(m.kind) >= 2) do m.second = some_value(); while (m.kind == 2 && m.second == 0);
+    if (fields(m.kind) >= 2) m.second = some_value();
     return m;
 }
 
@@ -681,7 +689,39 @@ static void examples(void) {
         /* a new box's answer holds zeros */
         {{0, 0, 0, 0, 0, 0, 0, 0, 0, 0, 0, 0}, 8, {0, 6, 1, 1, 0, 0, 0, 16},
          {0, 0, 0, 16, 0, 0, 0, 0, 0, 0, 0, 0}, 12, {0, 10, 1, 3, 0, 0, 0, 0, 0, 0, 0, 0}},
+        /* wish 7, revision 0: taken by a box that holds nothing, by one that holds 7, and by one that holds revision 0 */
+        {{0, 0, 0, 0, 0, 0, 0, 0, 0, 0, 0, 0}, 12, {0, 10, 1, 2, 0, 0, 0, 16, 0, 0, 0, 0},
+         {0, 0, 0, 0, 0, 0, 0, 16, 0, 0, 0, 0}, 4, {0, 2, 1, 5}},
+        {{0, 0, 0, 16, 0, 0, 0, 0, 0, 0, 0, 0}, 12, {0, 10, 1, 2, 0, 0, 0, 16, 0, 0, 0, 0},
+         {0, 0, 0, 16, 0, 0, 0, 16, 0, 0, 0, 0}, 4, {0, 2, 1, 5}},
+        {{0, 0, 0, 16, 0, 0, 0, 16, 0, 0, 0, 7}, 12, {0, 10, 1, 2, 0, 0, 0, 17, 0, 0, 0, 0},
+         {0, 0, 0, 16, 0, 0, 0, 17, 0, 0, 0, 0}, 4, {0, 2, 1, 5}},
+        {{0, 0, 0, 16, 0, 0, 0, 16, 0, 0, 0, 0}, 12, {0, 10, 1, 2, 0, 0, 0, 17, 0, 0, 0, 0},
+         {0, 0, 0, 16, 0, 0, 0, 17, 0, 0, 0, 0}, 4, {0, 2, 1, 5}},
+        /* not taken, by the read rank, by the write rank, by a write rank equal to the rank */
+        {{0, 0, 0, 17, 0, 0, 0, 0, 0, 0, 0, 0}, 12, {0, 10, 1, 2, 0, 0, 0, 16, 0, 0, 0, 0},
+         {0, 0, 0, 17, 0, 0, 0, 0, 0, 0, 0, 0}, 4, {0, 2, 1, 6}},
+        {{0, 0, 0, 15, 0, 0, 0, 33, 0, 0, 0, 7}, 12, {0, 10, 1, 2, 0, 0, 0, 16, 0, 0, 0, 0},
+         {0, 0, 0, 15, 0, 0, 0, 33, 0, 0, 0, 7}, 4, {0, 2, 1, 6}},
+        {{0, 0, 0, 16, 0, 0, 0, 16, 0, 0, 0, 7}, 12, {0, 10, 1, 2, 0, 0, 0, 16, 0, 0, 0, 0},
+         {0, 0, 0, 16, 0, 0, 0, 16, 0, 0, 0, 7}, 4, {0, 2, 1, 6}},
+        /* over revision 0 a write of the same rank is not taken, and one of a higher rank is */
+        {{0, 0, 0, 16, 0, 0, 0, 16, 0, 0, 0, 0}, 12, {0, 10, 1, 2, 0, 0, 0, 16, 0, 0, 0, 9},
+         {0, 0, 0, 16, 0, 0, 0, 16, 0, 0, 0, 0}, 4, {0, 2, 1, 6}},
+        {{0, 0, 0, 16, 0, 0, 0, 16, 0, 0, 0, 0}, 12, {0, 10, 1, 2, 0, 0, 0, 17, 0, 0, 0, 9},
+         {0, 0, 0, 16, 0, 0, 0, 17, 0, 0, 0, 9}, 4, {0, 2, 1, 5}},
+        /* a box that holds revision 0 answers its write rank; one with write rank 0 holds nothing, and its value is answered as it stands */
+        {{0, 0, 0, 16, 0, 0, 0, 16, 0, 0, 0, 0}, 8, {0, 6, 1, 1, 0, 0, 0, 17},
+         {0, 0, 0, 17, 0, 0, 0, 16, 0, 0, 0, 0}, 12, {0, 10, 1, 3, 0, 0, 0, 16, 0, 0, 0, 0}},
+        {{0, 0, 0, 16, 0, 0, 0, 16, 0, 0, 0, 0}, 8, {0, 6, 1, 1, 0, 0, 0, 15},
+         {0, 0, 0, 16, 0, 0, 0, 16, 0, 0, 0, 0}, 4, {0, 2, 1, 4}},
+        {{0, 0, 0, 0, 0, 0, 0, 0, 9, 10, 11, 12}, 8, {0, 6, 1, 1, 0, 0, 0, 16},
+         {0, 0, 0, 16, 0, 0, 0, 0, 9, 10, 11, 12}, 12, {0, 10, 1, 3, 0, 0, 0, 0, 9, 10, 11, 12}},
+        {{0, 0, 0, 16, 0, 0, 0, 0, 9, 10, 11, 12}, 12, {0, 10, 1, 2, 0, 0, 0, 16, 0, 0, 0, 0},
+         {0, 0, 0, 16, 0, 0, 0, 16, 0, 0, 0, 0}, 4, {0, 2, 1, 5}},
         /* numbers whose bytes all differ */
+        {{1, 2, 3, 4, 5, 6, 7, 8, 9, 10, 11, 12}, 12, {0, 10, 1, 2, 21, 22, 23, 24, 0, 0, 0, 0},
+         {1, 2, 3, 4, 21, 22, 23, 24, 0, 0, 0, 0}, 4, {0, 2, 1, 5}},
         {{1, 2, 3, 4, 5, 6, 7, 8, 9, 10, 11, 12}, 8, {0, 6, 1, 1, 21, 22, 23, 24},
          {21, 22, 23, 24, 5, 6, 7, 8, 9, 10, 11, 12}, 12, {0, 10, 1, 3, 5, 6, 7, 8, 9, 10, 11, 12}},
         {{1, 2, 3, 4, 5, 6, 7, 8, 9, 10, 11, 12}, 12, {0, 10, 1, 2, 21, 22, 23, 24, 31, 32, 33, 34},
@@ -720,10 +760,11 @@ static void refused_services(void) {
         {20, 0, 8, {0, 6, 0, 1, 0, 0, 0, 40}}, {20, 0, 8, {0, 6, 2, 1, 0, 0, 0, 40}},
         {20, 0, 12, {0, 10, 2, 2, 0, 0, 0, 40, 0, 0, 0, 9}}, {20, 0, 8, {0, 6, 2, 1, 0, 0, 0, 0}},
         {20, 0, 12, {0, 10, 2, 2, 0, 0, 0, 40, 0, 0, 0, 0}}, {20, 0, 4, {0, 2, 2, 7}}, {20, 0, 4, {0, 2, 2, 4}},
+        {20, 0, 12, {0, 10, 2, 2, 0, 0, 0, 0, 0, 0, 0, 0}}, {19, 0, 11, {0, 10, 1, 2, 0, 0, 0, 40, 0, 0, 0, 0}},
         {20, 0, 12, {0, 10, 2, 3, 0, 0, 0, 40, 0, 0, 0, 9}}, {21, 0, 4, {0, 2, 1, 0}}, {21, 0, 4, {0, 2, 1, 7}},
         {21, 0, 5, {0, 3, 1, 7, 9}}, {21, 0, 8, {0, 6, 1, 255, 0, 0, 0, 40}}, {21, 0, 8, {0, 6, 1, 1, 0, 0, 0, 0}},
-        {21, 0, 12, {0, 10, 1, 2, 0, 0, 0, 0, 0, 0, 0, 9}}, {21, 0, 12, {0, 10, 1, 2, 0, 0, 0, 40, 0, 0, 0, 0}},
-        {21, 0, 12, {0, 10, 1, 2, 0, 0, 0, 0, 0, 0, 0, 0}},
+        {21, 0, 12, {0, 10, 1, 2, 0, 0, 0, 0, 0, 0, 0, 9}}, {21, 0, 12, {0, 10, 1, 2, 0, 0, 0, 0, 0, 0, 0, 0}},
+        {21, 0, 13, {0, 10, 1, 2, 0, 0, 0, 0, 0, 0, 0, 0, 9}},
         /* a whole frame, but no request */
         {21, 0, 12, {0, 10, 1, 3, 0, 0, 0, 40, 0, 0, 0, 9}}, {21, 0, 12, {0, 10, 1, 3, 0, 0, 0, 0, 0, 0, 0, 0}},
         {21, 0, 4, {0, 2, 1, 4}}, {21, 0, 4, {0, 2, 1, 5}}, {21, 0, 4, {0, 2, 1, 6}},
@@ -733,6 +774,9 @@ static void refused_services(void) {
         {0, 4, 8, {0, 6, 1, 1, 0, 0, 0, 18}}, {0, 4, 9, {0, 6, 1, 1, 0, 0, 0, 18, 9}},
         {0, 4, 12, {0, 10, 1, 2, 0, 0, 0, 40, 0, 0, 0, 9}}, {0, 4, 13, {0, 10, 1, 2, 0, 0, 0, 40, 0, 0, 0, 9, 9}},
         {0, 4, 12, {0, 10, 1, 2, 0, 0, 0, 18, 0, 0, 0, 9}}, {0, 4, 13, {0, 10, 1, 2, 0, 0, 0, 18, 0, 0, 0, 9, 9}},
+        /* revision 0: taken, not taken */
+        {0, 4, 12, {0, 10, 1, 2, 0, 0, 0, 40, 0, 0, 0, 0}}, {0, 4, 13, {0, 10, 1, 2, 0, 0, 0, 40, 0, 0, 0, 0, 9}},
+        {0, 4, 12, {0, 10, 1, 2, 0, 0, 0, 18, 0, 0, 0, 0}}, {0, 4, 13, {0, 10, 1, 2, 0, 0, 0, 18, 0, 0, 0, 0, 9}},
     };
     static const uint8_t box[24] = {0, 0, 0, 33, 0, 0, 0, 16, 0, 0, 0, 7, 61, 62, 63, 64, 65, 66, 67, 68, 69, 70, 71, 72};
     static const size_t record_lengths[] = {0, 8, 11, 12, 13, 24};
@@ -753,6 +797,32 @@ static void refused_services(void) {
             }
 }
 
+/* Every record of ranks up to 3 and value 0 or 7, with every rank up to 4: read, and written with revision 0 and with 9. The buffer has no
+ * room, room for an answer without fields, and for every answer. */
+static void small_services(void) {
+    static const struct message asked[] = {{1, 0, 0}, {2, 0, 0}, {2, 0, 9}};
+    static const size_t buffer_lengths[] = {3, 4, 12};
+    uint32_t read, write, value, rank;
+    size_t i, j;
+    int outcome;
+    for (read = 0; read <= 3; read++)
+        for (write = 0; write <= 3; write++)
+            for (value = 0; value <= 7; value += 7)
+                for (rank = 0; rank <= 4; rank++)
+                    for (i = 0; i < COUNT_OF(asked); i++)
+                        for (j = 0; j < COUNT_OF(buffer_lengths); j++) {
+                            struct message m = asked[i];
+                            uint8_t box[12], bytes[12];
+                            m.first = rank;
+                            put(box, read);
+                            put(box + 4, write);
+                            put(box + 8, value);
+                            lay_record(box, 12, 0);
+                            lay_input(bytes, put_frame(bytes, m), 0);
+                            serve(0, 12, 0, size_of(m.kind), buffer_lengths[j], &outcome, __LINE__);
+                        }
+}
+
 /* ---- Pseudo-random inputs, read, written again, and served */
 
 #define INPUTS 1000000
@@ -768,13 +838,13 @@ static uint32_t some_rank(const uint8_t *box) {
     }
 }
 
-/* A frame of a message, more often of a request, zeros in it too. Gives its size. */
+/* A frame of a message, more often of a request, rank 0 and revision 0 in it too. Gives its size. */
 static size_t some_frame(uint8_t *p, const uint8_t *box) {
     static const uint8_t kinds[16] = {1, 1, 1, 1, 1, 2, 2, 2, 2, 2, 2, 3, 3, 4, 5, 6};
     struct message m;
     m.kind = kinds[number() % 16];
     m.first = some_rank(box);
-    m.second = number() % 16 ? number() : 0;
+    m.second = number() % 4 ? number() : 0;
     return put_frame(p, m);
 }
 
@@ -834,20 +904,31 @@ static size_t some_input(const uint8_t *box) {
     return how <= 7 ? size + number() % 9 : change(size, size + (number() % 2 ? 0 : number() % 9), box);
 }
 
-/* A record: that of the last call, small ranks, or any bytes. */
+/* A record: that of the last call, small ranks, among them write rank 0, or any bytes; value 0 too. */
 static void some_record(uint8_t *box) {
     uint32_t k = number() % 8;
     if (k < 5) return;
     some_bytes(box, 6);
     if (k < 7) {
         put(box, number() % 64);
-        put(box + 4, number() % 64);
+        put(box + 4, number() % 4 ? number() % 64 : 0);
     }
+    if (number() % 2) put(box + 8, 0);
+}
+
+/* Wish 7, of a request that is served: each has to come often. */
+enum { REVISION_0_TAKEN, REVISION_0_NOT_TAKEN, REVISION_0_ANSWERED, NOTHING_ANSWERED, VALUE_OF_NOTHING_ANSWERED, WISH_7 };
+
+static void note_wish_7(unsigned long *wish_7, int outcome, uint32_t revision, uint32_t write_rank, uint32_t value) {
+    if (outcome == TAKEN && revision == 0) wish_7[REVISION_0_TAKEN]++;
+    if (outcome == NOT_TAKEN && revision == 0) wish_7[REVISION_0_NOT_TAKEN]++;
+    if (outcome == ANSWERED && write_rank != 0 && value == 0) wish_7[REVISION_0_ANSWERED]++;
+    if (outcome == ANSWERED && write_rank == 0) wish_7[value == 0 ? NOTHING_ANSWERED : VALUE_OF_NOTHING_ANSWERED]++;
 }
 
 static void random_inputs(void) {
     static const size_t buffer_lengths[8] = {0, 3, 4, 11, 12, 12, 13, 40};
-    static unsigned long count[OUTCOMES];
+    static unsigned long count[OUTCOMES], wish_7[WISH_7];
     uint8_t box[24];
     unsigned long inputs_read = 0, messages_served = 0;
     long i;
@@ -873,7 +954,9 @@ static void random_inputs(void) {
         if (r.answer != 0) check(outcome == r.outcome, __LINE__, "a refused frame is refused in serving");
         else count[outcome]++;
         memcpy(box, record.now + AT + 7 - shift, sizeof box);
+        note_wish_7(wish_7, outcome, r.m.second, get(box + 4), get(box + 8)); /* a read leaves write rank and value */
     }
+    for (k = 0; k < WISH_7; k++) CHECK(wish_7[k] >= INPUTS / 500);
     for (k = 0; k < OUTCOMES; k++) {
         CHECK(count[k] >= INPUTS / 250);
         if (k < NO_REQUEST) inputs_read += count[k];
@@ -901,6 +984,7 @@ int main(void) {
     long_services();
     examples();
     refused_services();
+    small_services();
     random_inputs();
     printf("%lu\n", checks);
     return 0;

@@ -4,10 +4,14 @@
 //     f1 row station readers writers                     the station of a row, and its masks of the boxes whose answers were
 //                                                        received; those to reads say what the box held
 //     f2 box read write value stopped department         the department's record of a box, and whether the box has stopped
-//     f3 station state attempt last decided department   a station; its state counts from 0, in the order of `State`
+//     f3 station state attempt last decided department told
+//                                                        a station; its state counts from 0, in the order of `State`; it decided
+//                                                        nothing where both the revision and the last byte are 0, else the
+//                                                        revision, so that a last byte 1 says that it decided revision 0
 //     f7 row boxes                                       the answers to the reads of a row that are outranked, as a mask of boxes
 //     fb row rank                                        the rank of a row, a number of four bytes
 //     fc rank department                                 the department's highest rank begun, a number of four bytes
+use attempts::Decision;
 use attempts::Row;
 use attempts::State;
 use attempts::Station;
@@ -90,12 +94,20 @@ fn state(number: u8, attempt: u8) -> State {
     }
 }
 
+// What the station of a record decided.
+pub(crate) fn decision(revision: u8, told: u8) -> Decision {
+    if revision | told == 0 {
+        return Decision::None;
+    }
+    Decision::Revision(revision as u32)
+}
+
 fn station(r: [u8; 8]) -> Station {
     Station {
         department: department(r[6]),
         state: state(r[2], r[3]),
         last: r[4] as u16,
-        decided: r[5] as u32,
+        decided: decision(r[5], r[7]),
     }
 }
 

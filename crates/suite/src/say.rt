@@ -1,6 +1,8 @@
 // A step, what came of it, a refusal, stations and boxes, in words.
 ghost use Prim.Native.Nat.{_≤_};
+use crate::hand;
 use crate::text;
+use attempts::Decision;
 use attempts::State;
 use attempts::Station;
 use commands::Outcome;
@@ -54,7 +56,15 @@ pub(crate) fn of_canvas(department: u8) {
     }
 }
 
-// The end of a change by hand: the rows of canvas in use, or that it is of canvas.
+// The revision that a station decided, 0 too, or that it decided none.
+fn decision(decided: Decision) {
+    match decided {
+        Decision::None => text::print(b"none"),
+        Decision::Revision(v) => text::fill(b"%", &[v as u64]),
+    }
+}
+
+// The end of a change by hand: the rows of canvas in use, what a station decided, or that it is of canvas.
 fn change_end(r: [u8; 8]) {
     let kind = r[0];
     match kind {
@@ -64,6 +74,10 @@ fn change_end(r: [u8; 8]) {
             }
         }
         0xf1 => {}
+        0xf3 => {
+            decision(hand::decision(r[5], r[7]));
+            of_canvas(r[6]);
+        }
         _ => of_canvas(r[6]),
     }
 }
@@ -82,7 +96,7 @@ pub(crate) fn change(r: [u8; 8]) {
         |by hand: row % of station %, read answers received by mask %, write answers by mask %\
         |by hand: box % read rank %, write rank %, value %, stopped % (0 no, 1 yes)\
         |by hand: station % in state % (0 idle, 1 reading, 2 writing, 3 decided, 4 gone), attempt %, last round %, \
-        decided revision %",
+        decided revision ",
         r[0] % 16,
         &[
             r[1] as u64,
@@ -145,10 +159,10 @@ pub(crate) fn refusal(k: u8) {
         b"no refusal|refusal % (size or L)|refusal % (version)|refusal % (number of boxes or stations)|refusal % (label)\
         |refusal % (not whole records, or more than 4,096)|refusal % (floor not sound)\
         |refusal % (kind, or a byte that should be zero)|refusal % (no such station, box or attempt)\
-        |refusal % (station gone)|refusal % (station reading, writing or decided)|refusal % (revision or round)\
+        |refusal % (station gone)|refusal % (station reading, writing or decided)|refusal % (round)\
         |refusal % (no row unused or free)|refusal % (box stopped)|refusal % (not waiting, or not on the way)\
         |refusal % (fewer than q boxes not stopped)|refusal %|refusal %|refusal % (buffer shorter than the file)\
-        |refusal % (length of the frame)|refusal % (version of the frame)|refusal % (kind, or rank or revision 0)\
+        |refusal % (length of the frame)|refusal % (version of the frame)|refusal % (kind, or rank 0)\
         |refusal % (departments)|refusal %",
         at_most(23, k),
         &[k as u64],
@@ -208,6 +222,7 @@ pub(crate) fn code(d: Department) -> u8 {
 fn station(number: u8, st: Station) {
     let d = st.department;
     let state = st.state;
+    let decided = st.decided;
     let rank = player::last_rank(st.last, number);
     text::pick(
         b"station % |station % of canvas, ",
@@ -215,10 +230,8 @@ fn station(number: u8, st: Station) {
         &[number as u64],
     );
     text::pick(b"idle|reading|writing|decided|gone", place(state), &[]);
-    text::fill(
-        b", last rank %, decided revision %",
-        &[rank as u64, st.decided as u64],
-    );
+    text::fill(b", last rank %, decided revision ", &[rank as u64]);
+    decision(decided);
 }
 
 fn station_line(number: u8, st: Station) {
