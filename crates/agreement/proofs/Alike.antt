@@ -69,7 +69,7 @@ pub record Alike (d : Department) (f g : Floor) : Type 0 where
   pub boxes : g .n ≡ f .n
   pub stations : g .m ≡ f .m
   pub same : SameFor d f g
-  pub stopped : (b : ℕ) → boxAt g b .stopped ≡ boxAt f b .stopped
+  pub away : (b : ℕ) → boxAt g b .away ≡ boxAt f b .away
   pub box-length : length (g .boxes) ≡ length (f .boxes)
   pub station-length : length (g .stations) ≡ length (f .stations)
   pub row-length : length (g .rows) ≡ length (f .rows)
@@ -87,7 +87,7 @@ module _ {d : Department} {f g : Floor} (k : Alike d f g) where
       stations = k .same .stations;
       departments = k .same .departments;
     };
-    stopped = k .stopped;
+    away = k .away;
     box-length = k .box-length;
     station-length = k .station-length;
     row-length = length-set (g .rows) a w ∙ k .row-length ∙ sym (length-set (f .rows) a w);
@@ -112,13 +112,13 @@ module _ {d : Department} {f g : Floor} (k : Alike d f g) where
       ];
       departments = λ j. stored-part (λ (y : Station). y .department) station0 (f .stations) (g .stations) (k .station-length) s x x refl j (k .same .departments j);
     };
-    stopped = k .stopped;
+    away = k .away;
     box-length = k .box-length;
     station-length = length-set (g .stations) s x ∙ k .station-length ∙ sym (length-set (f .stations) s x);
     row-length = k .row-length;
   }
 
-  alike-box : (b : ℕ) (x y : StorageBox) → registerOf d y ≡ registerOf d x → y .stopped ≡ x .stopped → Alike d (withBox f b x) (withBox g b y)
+  alike-box : (b : ℕ) (x y : StorageBox) → registerOf d y ≡ registerOf d x → y .away ≡ x .away → Alike d (withBox f b x) (withBox g b y)
   alike-box b x y r t = record {
     boxes = k .boxes;
     stations = k .stations;
@@ -129,7 +129,7 @@ module _ {d : Department} {f g : Floor} (k : Alike d f g) where
       stations = k .same .stations;
       departments = k .same .departments;
     };
-    stopped = λ j. stored-part (λ (z : StorageBox). z .stopped) box0 (f .boxes) (g .boxes) (k .box-length) b x y t j (k .stopped j);
+    away = λ j. stored-part (λ (z : StorageBox). z .away) box0 (f .boxes) (g .boxes) (k .box-length) b x y t j (k .away j);
     box-length = length-set (g .boxes) b y ∙ k .box-length ∙ sym (length-set (f .boxes) b x);
     station-length = k .station-length;
     row-length = k .row-length;
@@ -137,7 +137,7 @@ module _ {d : Department} {f g : Floor} (k : Alike d f g) where
 
   alike-register : (b : ℕ) (r : Register) → Alike d (withRegister d f b r) (withRegister d g b r)
   alike-register b r =
-      alike-box b _ _ (box-own d (boxAt g b) r (boxAt g b .stopped) ∙ sym (box-own d (boxAt f b) r (boxAt f b .stopped))) (k .stopped b)
+      alike-box b _ _ (box-own d (boxAt g b) r (boxAt g b .away) ∙ sym (box-own d (boxAt f b) r (boxAt f b .away))) (k .away b)
 
   alike-share : (x : Share) → Alike d (withShare d f x) (withShare d g x)
   alike-share x = record {
@@ -150,7 +150,7 @@ module _ {d : Department} {f g : Floor} (k : Alike d f g) where
       stations = k .same .stations;
       departments = k .same .departments;
     };
-    stopped = k .stopped;
+    away = k .away;
     box-length = k .box-length;
     station-length = k .station-length;
     row-length = k .row-length;
@@ -160,7 +160,7 @@ module _ {d : Department} {f g : Floor} (k : Alike d f g) where
   served-alike : (w : Row) (c : ℕ) → allServed w (g .boxes) c ≡ allServed w (f .boxes) c
   unfolding allServed
   served-alike w zero = refl
-  served-alike w (suc c) = rw (served-alike w c, k .stopped c) refl
+  served-alike w (suc c) = rw (served-alike w c, k .away c) refl
 
   better-alike : (x : Lowest) (w : Row) (p : State) (a : ℕ) → betterIn x w p (g .boxes) (g .n) a ≡ betterIn x w p (f .boxes) (f .n) a
   unfolding betterIn freeIn
@@ -296,7 +296,7 @@ module _ {d : Department} {f g : Floor} (k : Alike d f g) (o : Owned f) where
       record {
         used = in-use-alike a e (c .used);
         box = omega (arith, c .box, k .boxes);
-        answers = k .stopped b ∙ c .answers;
+        answers = k .away b ∙ c .answers;
         waits = rw (k .same .rows a e) (c .waits);
       }
 
@@ -346,7 +346,7 @@ module _ {d : Department} {f g : Floor} (k : Alike d f g) (o : Owned f) where
       (deliver-holds g p a b (can-deliver p a b e c), deliver-alike p a b e (c .used))
   effect-alike (Stop b) e h =
       let c = stop-means f b h in (
-        stop-holds g b (record { box = omega (arith, c .box, k .boxes); answers = k .stopped b ∙ c .answers }),
+        stop-holds g b (record { box = omega (arith, c .box, k .boxes); answers = k .away b ∙ c .answers }),
         record { outcome = refl; floor = alike-box k b _ _ (stop-kept d (boxAt g b) ∙ k .same .registers b ∙ sym (stop-kept d (boxAt f b))) refl },
       )
   effect-alike (Leave s) e h =

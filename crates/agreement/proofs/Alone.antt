@@ -33,18 +33,18 @@ use Rattle.agreement.proofs.Standing.{department-at, stations-at, stopp
 use Rattle.agreement.proofs.FreeRows.{row-left}
 
 -- a set of boxes that have not stopped is no larger than the list of them
-count-answering : (boxes : List StorageBox) (k b : ℕ) (set : ℕ → Bool) → ((j : ℕ) → j < k → set j ≡ true → getD boxes (b + j) box0 .stopped ≡ false)
+count-answering : (boxes : List StorageBox) (k b : ℕ) (set : ℕ → Bool) → ((j : ℕ) → j < k → set j ≡ true → getD boxes (b + j) box0 .away ≡ false)
     → count set k ≤ length (answeringFrom k b boxes)
 unfolding count answeringFrom
 count-answering boxes zero b set h = omega arith
 count-answering boxes (suc k) b set h =
     let rest = count-answering boxes k (b + 1) (λ j. set (suc j)) (λ j u t. let q : b + suc j ≡ b + 1 + j = omega arith in subst At q (h (suc j) (omega arith) t)) in
-    by-test (λ (x : List ℕ). count set (suc k) ≤ length x) (getD boxes b box0 .stopped) _ _
+    by-test (λ (x : List ℕ). count set (suc k) ≤ length x) (getD boxes b box0 .away) _ _
     (λ e. omega (arith, count-low k set, rest, none (set 0) (λ t. clash e (subst At first (h 0 (omega arith) t)))))
     (λ e. omega (arith, count-low k set, rest, at-most (set 0)))
   where
     At : ℕ → Type 0
-    At c = getD boxes c box0 .stopped ≡ false
+    At c = getD boxes c box0 .away ≡ false
 
     first : b + 0 ≡ b
     first = omega arith
@@ -71,7 +71,7 @@ module _ (f : Floor) (l : List (List ℕ)) (new : New f) (z : Sound f) (s i : �
     );
     row = rw (department-at f l new s i) (row-left f l new z (departmentAt f s) i row);
     boxes = rw (size-at f l i) (le-trans (boxes .large)
-        (count-answering (floorAt f l i .boxes) (f .n) 0 (boxes .set) (λ j h t. subst (λ (b : ℕ). getD (floorAt f l i .boxes) b box0 .stopped ≡ false) (sym (zero-add j))
+        (count-answering (floorAt f l i .boxes) (f .n) 0 (boxes .set) (λ j h t. subst (λ (b : ℕ). getD (floorAt f l i .boxes) b box0 .away ≡ false) (sym (zero-add j))
         (not-true-false _ (λ e. boxes .each j h t (stopped-before f l new j i e))))));
   }
 

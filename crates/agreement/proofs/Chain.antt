@@ -177,7 +177,7 @@ module _ (f : Floor) (l : List (List ℕ)) (new : New f) (z : Sound f) (a i : �
 
   -- the box's next record for the attempt's department
   stored : registerAt (floorAt f l (suc i)) (rowDepartment a) b ≡ registerServed (x .phase) w held
-  stored = ap (registerOf (rowDepartment a)) (x .storage) ∙ box-own (rowDepartment a) (boxAt g b) _ (boxAt g b .stopped)
+  stored = ap (registerOf (rowDepartment a)) (x .storage) ∙ box-own (rowDepartment a) (boxAt g b) _ (boxAt g b .away)
 
   -- a read: the box's next register, the answer then on the way, and whether that is a yes
   module _ (q : x .phase ≡ Read) where

@@ -106,7 +106,7 @@ keeps-same f g d h (Leave s) = ap (isOf d) (h s)
 keeps-same f g d h Malformed = refl
 
 -- only a stop stops a box
-still-answers : {f : Floor} {c : Command} {j : ℕ} {o : Outcome} {x : StorageBox} → BoxMove f c j o x → ((b : ℕ) → ¬ (c ≡ Stop b)) → x .stopped ≡ boxAt f j .stopped
+still-answers : {f : Floor} {c : Command} {j : ℕ} {o : Outcome} {x : StorageBox} → BoxMove f c j o x → ((b : ℕ) → ¬ (c ≡ Stop b)) → x .away ≡ boxAt f j .away
 still-answers box-kept n = refl
 still-answers (box-serves q u t) n = refl
 still-answers {j = j} (box-stops q t) n = absurd (n j q)
@@ -126,7 +126,7 @@ other-alike {d} {f} {g} c k o y y' e n z =
         stations = λ s q. let q' = sym (u .departments s) ∙ q in k .same .stations s q' ∙ sym (u .stations s q');
         departments = λ s. k .same .departments s ∙ sym (u .departments s);
       };
-      stopped = λ b. k .stopped b ∙ sym (still-answers (apply-box f c b) n);
+      away = λ b. k .away b ∙ sym (still-answers (apply-box f c b) n);
       box-length = k .box-length ∙ y .boxes ∙ sym (y' .boxes);
       station-length = k .station-length ∙ y .stations ∙ sym (y' .stations);
       row-length = k .row-length ∙ y .rows ∙ sym (y' .rows);
@@ -150,7 +150,7 @@ module _ (f : Floor) (d : Department) (l : List (List ℕ)) (new : New f) (z : S
     boxes = refl;
     stations = refl;
     same = record { registers = λ b. refl; share = refl; rows = λ a _. refl; stations = λ s _. refl; departments = λ s. refl };
-    stopped = λ b. refl;
+    away = λ b. refl;
     box-length = refl;
     station-length = refl;
     row-length = refl;
@@ -194,5 +194,5 @@ deletion n m t l accepted d =
       asked = at-place f d l;
       said = λ i h e. both f d l new z accepted i h e (alike f d l new z accepted i (omega arith)) .outcome;
       same = λ i h. alike f d l new z accepted i h .same;
-      stopped = λ i h. alike f d l new z accepted i h .stopped;
+      away = λ i h. alike f d l new z accepted i h .away;
     }

@@ -109,7 +109,7 @@ module _ {f : Floor} {l : History} (a b : ℕ) (s : Shows (rowDepartment a) f l)
 
   -- the box with the record that the routine left
   abbrev after : Register → StorageBox
-  after r = boxWith own (boxAt f b) r (boxAt f b .stopped)
+  after r = boxWith own (boxAt f b) r (boxAt f b .away)
 
   module _ (d : CanServe f Read a b) where
     abbrev asked : ℕ
@@ -191,12 +191,12 @@ module _ {f : Floor} {l : History} (a b : ℕ) (s : Shows (rowDepartment a) f l)
     serve-asked : {x : ReadDone} → ReadCase held asked x → StepTo own f l (floorAsked x) (askedEvent (x .answer) asked b)
     serve-asked (outranked h) = record {
       step = serve-nack (set-all box0 (λ (j : ℕ) (c : StorageBox). seen own c ≡ registersOf own f j) (f .boxes) b (after held) (λ j. refl)
-          (ap toBox (box-own own (boxAt f b) held (boxAt f b .stopped)))) h;
+          (ap toBox (box-own own (boxAt f b) held (boxAt f b .away)))) h;
       shows = asked-shows (record { register = held; answer = Outranked });
     }
     serve-asked (answered h k) = let got : Register = record { read = asked; write = held .write; value = held .value } in record {
       step = serve-read (box-edit own f b (after got) (omega (arith, d .box, z .box-most)) y (readBox asked)
-          (ap toBox (box-own own (boxAt f b) got (boxAt f b .stopped))
+          (ap toBox (box-own own (boxAt f b) got (boxAt f b .away))
           ∙ ap (λ (i : ℕ). record { readRank = i; writeRank = held .write; value = held .value }) (sym (max-eq-right h)))) refl refl;
       shows = asked-shows (record { register = got; answer = Held (held .write) (held .value) });
     }
@@ -260,12 +260,12 @@ module _ {f : Floor} {l : History} (a b : ℕ) (s : Shows (rowDepartment a) f l)
     serve-write : {w : WriteDone} → Written held rank (rowAt f a .written) w → StepTo own f l (served w) (wroteEvent (w .taken) rank b)
     serve-write (stored p q) = let got : Register = record { read = held .read; write = rank; value = rowAt f a .written } in record {
       step = take (s .rows a (refl, d .used) .writes .issue issued-then) p q
-          (box-edit own f b (after got) (omega (arith, d .box, z .box-most)) y (writeBox rank (rowAt f a .written)) (ap toBox (box-own own (boxAt f b) got (boxAt f b .stopped))));
+          (box-edit own f b (after got) (omega (arith, d .box, z .box-most)) y (writeBox rank (rowAt f a .written)) (ap toBox (box-own own (boxAt f b) got (boxAt f b .away))));
       shows = served-shows _;
     }
     serve-write (kept h) = record {
       step = refuse (set-all box0 (λ (j : ℕ) (x : StorageBox). seen own x ≡ registersOf own f j) (f .boxes) b (after held) (λ j. refl)
-          (ap toBox (box-own own (boxAt f b) held (boxAt f b .stopped)))) h;
+          (ap toBox (box-own own (boxAt f b) held (boxAt f b .away)))) h;
       shows = served-shows (record { register = held; taken = false });
     }
 

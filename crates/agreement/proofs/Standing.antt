@@ -135,19 +135,19 @@ module _ (f : Floor) (l : List (List ℕ)) (new : New f) where
       ])
 
   -- a box is stopped exactly where an accepted step stopped it
-  pub stopped-before : (b i : ℕ) → boxAt (floorAt f l i) b .stopped ≡ true → Before (λ k. saidAt f l k ≡ said.Stopped b) i
+  pub stopped-before : (b i : ℕ) → boxAt (floorAt f l i) b .away ≡ true → Before (λ k. saidAt f l k ≡ said.Stopped b) i
   unfolding floorAt stepOf
-  stopped-before b zero e = clash e (ap (λ (x : StorageBox). x .stopped) (new .boxes b))
+  stopped-before b zero e = clash e (ap (λ (x : StorageBox). x .away) (new .boxes b))
   stopped-before b (suc i) e = elim (stopped-from (floorAt f l i) (commandAt l i) b e) [ inl o ↦ later (stopped-before b i o) | inr o ↦ now i o ]
 
-  stopped-still : (b i : ℕ) → boxAt (floorAt f l i) b .stopped ≡ true → boxAt (floorAt f l (suc i)) b .stopped ≡ true
+  stopped-still : (b i : ℕ) → boxAt (floorAt f l i) b .away ≡ true → boxAt (floorAt f l (suc i)) b .away ≡ true
   unfolding floorAt stepOf
-  stopped-still b i e = ap (λ (x : StorageBox). x .stopped) (stopped-stays (floorAt f l i) (commandAt l i) b e) ∙ e
+  stopped-still b i e = ap (λ (x : StorageBox). x .away) (stopped-stays (floorAt f l i) (commandAt l i) b e) ∙ e
 
-  pub stopped-since : (b i : ℕ) → Before (λ k. saidAt f l k ≡ said.Stopped b) i → boxAt (floorAt f l i) b .stopped ≡ true
+  pub stopped-since : (b i : ℕ) → Before (λ k. saidAt f l k ≡ said.Stopped b) i → boxAt (floorAt f l i) b .away ≡ true
   stopped-since b zero x = absurd (omega (arith, x .earlier))
   stopped-since b (suc i) x = elim (up-to (x .earlier)) [
-    | inl q ↦ ap (λ (y : StorageBox). y .stopped) (means-at f l new i (said.Stopped b) (ap (saidAt f l) (sym q) ∙ x .holds) .storage)
+    | inl q ↦ ap (λ (y : StorageBox). y .away) (means-at f l new i (said.Stopped b) (ap (saidAt f l) (sym q) ∙ x .holds) .storage)
     | inr q ↦ stopped-still b i (stopped-since b i (record { at = x .at; earlier = q; holds = x .holds }))
   ]
 

@@ -103,8 +103,8 @@ module _ {f : Floor} (h : FloorFits f) {c : Command} (k : Fielded c) (j : ℕ) w
   box-fits : {o : Outcome} {x : StorageBox} (d : Department) → BoxMove f c j o x → Fits32 (registerOf d x)
   box-fits d box-kept = h .boxes d j
   box-fits d (box-serves {p} {a} e u s) = elim (same-or-not d (rowDepartment a)) [
-    | inl q ↦ rw (q, box-own (rowDepartment a) (boxAt f j) _ (boxAt f j .stopped)) (served-register p (h .rows a) (h .boxes (rowDepartment a) j))
-    | inr n ↦ rw (box-other (rowDepartment a) d (boxAt f j) (registerServed p (rowAt f a) (servedBy f a j)) (boxAt f j .stopped) n) (h .boxes d j)
+    | inl q ↦ rw (q, box-own (rowDepartment a) (boxAt f j) _ (boxAt f j .away)) (served-register p (h .rows a) (h .boxes (rowDepartment a) j))
+    | inr n ↦ rw (box-other (rowDepartment a) d (boxAt f j) (registerServed p (rowAt f a) (servedBy f a j)) (boxAt f j .away) n) (h .boxes d j)
   ]
   box-fits Sails (box-stops e s) = h .boxes Sails j
   box-fits Canvas (box-stops e s) = h .boxes Canvas j

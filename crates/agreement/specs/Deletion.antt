@@ -46,7 +46,7 @@ pub record Deletion (f : Floor) (d : Department) (l : List (List ℕ)) : Type 0 
   -- and behind it, as behind every other, that department's records in the boxes, its stations and its rows are what they were, and the
   -- same boxes have stopped
   pub same : (i : ℕ) → i ≤ length l → SameFor d (floorAt f l i) (floorAt f (keptOf f d l) (placeOf f d l i))
-  pub stopped : (i : ℕ) → i ≤ length l → (b : ℕ) → boxAt (floorAt f (keptOf f d l) (placeOf f d l i)) b .stopped ≡ boxAt (floorAt f l i) b .stopped
+  pub away : (i : ℕ) → i ≤ length l → (b : ℕ) → boxAt (floorAt f (keptOf f d l) (placeOf f d l i)) b .away ≡ boxAt (floorAt f l i) b .away
 
 -- of every run from a new floor in which every step was accepted
 abbrev pub DeletionTheorem : Type 0

@@ -60,12 +60,12 @@ module _ (f : Floor) (x : Register) (a : ℕ) (h : InUse f a) where
   grown-served Write = grown-write
 
 module _ {f : Floor} {c : Command} {j : ℕ} where
-  stopped-kept : {o : Outcome} {x : StorageBox} → BoxMove f c j o x → boxAt f j .stopped ≡ true → x ≡ boxAt f j
+  stopped-kept : {o : Outcome} {x : StorageBox} → BoxMove f c j o x → boxAt f j .away ≡ true → x ≡ boxAt f j
   stopped-kept box-kept e = refl
   stopped-kept (box-serves q u t) e = clash e t
   stopped-kept (box-stops q t) e = clash e t
 
-  stopped-by : {o : Outcome} {x : StorageBox} → BoxMove f c j o x → x .stopped ≡ true → (boxAt f j .stopped ≡ true) ⊎ (o ≡ Stopped j)
+  stopped-by : {o : Outcome} {x : StorageBox} → BoxMove f c j o x → x .away ≡ true → (boxAt f j .away ≡ true) ⊎ (o ≡ Stopped j)
   stopped-by box-kept e = inl e
   stopped-by (box-serves q u t) e = inl e
   stopped-by (box-stops q t) e = inr refl
@@ -74,8 +74,8 @@ module _ {f : Floor} {c : Command} {j : ℕ} where
   grown : {o : Outcome} {x : StorageBox} (d : Department) → BoxMove f c j o x → Grown f d (registerAt f d j) (registerOf d x)
   grown d box-kept = grown-same f d (registerAt f d j)
   grown d (box-serves {p = p} {a = a} q u t) = elim (same-or-not d (rowDepartment a)) [
-    | inl e ↦ rw (e, box-own (rowDepartment a) (boxAt f j) _ (boxAt f j .stopped)) (grown-served f (registerAt f (rowDepartment a) j) a u p)
-    | inr n ↦ rw (box-other (rowDepartment a) d (boxAt f j) (registerServed p (rowAt f a) (servedBy f a j)) (boxAt f j .stopped) n) (grown-same f d (registerAt f d j))
+    | inl e ↦ rw (e, box-own (rowDepartment a) (boxAt f j) _ (boxAt f j .away)) (grown-served f (registerAt f (rowDepartment a) j) a u p)
+    | inr n ↦ rw (box-other (rowDepartment a) d (boxAt f j) (registerServed p (rowAt f a) (servedBy f a j)) (boxAt f j .away) n) (grown-same f d (registerAt f d j))
   ]
   grown Sails (box-stops q t) = grown-same f Sails (registerAt f Sails j)
   grown Canvas (box-stops q t) = grown-same f Canvas (registerAt f Canvas j)
@@ -92,10 +92,10 @@ module _ (f : Floor) (c : Command) (j : ℕ) where
   said = applyOf f c .outcome
 
   -- "Stop box b, for good": a stopped box never changes again, and a box is stopped by the step that says so only
-  pub stopped-stays : before .stopped ≡ true → after ≡ before
+  pub stopped-stays : before .away ≡ true → after ≡ before
   stopped-stays = stopped-kept (apply-box f c j)
 
-  pub stopped-from : after .stopped ≡ true → (before .stopped ≡ true) ⊎ (said ≡ Stopped j)
+  pub stopped-from : after .away ≡ true → (before .away ≡ true) ⊎ (said ≡ Stopped j)
   stopped-from = stopped-by (apply-box f c j)
 
   -- a box's ranks never fall, and each is its old one or that of a row in use

@@ -82,7 +82,7 @@ case-untouched {f} (began {s = s} {round = r} {v = v} z y) d o e =
 case-untouched {f} (served {p = p} {a = a} {b = b} z y) d o e =
     let n = not-of d (rowDepartment a) e in
     record {
-      registers = registers-kept d f b _ (box-other (rowDepartment a) d (boxAt f b) _ (boxAt f b .stopped) (λ q. n (sym q)));
+      registers = registers-kept d f b _ (box-other (rowDepartment a) d (boxAt f b) _ (boxAt f b .away) (λ q. n (sym q)));
       share = refl;
       rows = rows-kept d f a _ n;
       stations = λ s _. refl;

@@ -44,7 +44,7 @@ still-holds t s w e h =
 
 module _ (w : Row) (boxes : List StorageBox) where
   abbrev Rests : ℕ → Type 0
-  Rests b = getD boxes b box0 .stopped ≡ false → waitsAt w b ≡ false
+  Rests b = getD boxes b box0 .away ≡ false → waitsAt w b ≡ false
 
   served-means : (k : ℕ) → allServed w boxes k ≡ true → (b : ℕ) → b < k → Rests b
   unfolding allServed

@@ -68,7 +68,7 @@ partsAt f d next a b s =
       highest = highestOf f d;
       row = rowAt f a;
       register = registerAt f d b;
-      stopped = boxAt f b .stopped;
+      away = boxAt f b .away;
       station = stationAt f s;
     }
 
@@ -80,7 +80,7 @@ storedAt f d i b j x =
       n = f .n;
       m = f .m;
       shares = sharesWith d f (record { used = x .used; highest = x .highest });
-      boxes = set (f .boxes) b (boxWith d (boxAt f b) (x .register) (x .stopped));
+      boxes = set (f .boxes) b (boxWith d (boxAt f b) (x .register) (x .away));
       stations = set (f .stations) j (x .station);
       rows = set (f .rows) i (x .row);
     }

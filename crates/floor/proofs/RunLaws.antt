@@ -100,7 +100,7 @@ pub gathered-at : (f : Floor) (d : Department) (next i b j first : ℕ) (share :
       highest = share .highest;
       row = rowAt f i;
       register = register;
-      stopped = boxAt f b .stopped;
+      away = boxAt f b .away;
       station = stationAt f j;
     } ≡ partsAt f d next i b j
 gathered-at f d next i b j first share register e₁ e₂ e₃ = rw (e₁, e₂, e₃) refl
@@ -161,7 +161,7 @@ module _ {f : Floor} {c : Command} {d : Department} {next i b j : ℕ} {y : Chan
 
   -- it was accepted, and the loop stored this box and these shares; k steps were before it, and count - k records of the bytes l are left
   module _ (e : isRefused (y .outcome) ≡ false) (storage : StorageBox) (shares : Shares)
-      (eb : storage ≡ boxWith d (boxAt f b) (y .parts .register) (y .parts .stopped))
+      (eb : storage ≡ boxWith d (boxAt f b) (y .parts .register) (y .parts .away))
       (es : shares ≡ sharesWith d f (record { used = y .parts .used; highest = y .parts .highest })) where
     turn-leaves : leftAt f i b j storage shares (y .parts) ≡ applyOf f c .floor
     turn-leaves =

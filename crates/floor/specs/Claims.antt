@@ -76,7 +76,7 @@ module _ (f : Floor) where
   pub record CanServe (p : Phase) (a b : ℕ) : Type 0 where
     pub used : InUse f a
     pub box : b < f .n
-    pub answers : boxAt f b .stopped ≡ false
+    pub answers : boxAt f b .away ≡ false
     pub waits : isWaiting (standingOf (requestsOf p (rowAt f a)) b) ≡ true
 
   pub record CanDeliver (p : Phase) (a b : ℕ) : Type 0 where
@@ -87,7 +87,7 @@ module _ (f : Floor) where
 
   pub record CanStop (b : ℕ) : Type 0 where
     pub box : b < f .n
-    pub answers : boxAt f b .stopped ≡ false
+    pub answers : boxAt f b .away ≡ false
 
   pub record CanLeave (s : ℕ) : Type 0 where
     pub station : s < f .m
@@ -119,7 +119,7 @@ module _ (f : Floor) (c : Command) (g : Floor) where
     pub command : c ≡ Serve phase a box
     pub may : CanServe f phase a box
     pub row : rowAt g a ≡ rowServed phase (rowAt f a) (servedBy f a box) box
-    pub storage : boxAt g box ≡ boxWith (rowDepartment a) (boxAt f box) (registerServed phase (rowAt f a) (servedBy f a box)) (boxAt f box .stopped)
+    pub storage : boxAt g box ≡ boxWith (rowDepartment a) (boxAt f box) (registerServed phase (rowAt f a) (servedBy f a box)) (boxAt f box .away)
 
   pub record ReceivedBy (a : ℕ) : Type 0 where
     pub phase : Phase
@@ -212,9 +212,9 @@ module _ (f : Floor) (c : Command) (j : ℕ) where
   -- the box j after the step
   pub data BoxMove : Outcome → StorageBox → Type 0 where
     box-kept : {o : Outcome} → BoxMove o (boxAt f j)
-    box-serves : {p : Phase} {a : ℕ} → c ≡ Serve p a j → InUse f a → boxAt f j .stopped ≡ false
-        → BoxMove (Served a) (boxWith (rowDepartment a) (boxAt f j) (registerServed p (rowAt f a) (servedBy f a j)) (boxAt f j .stopped))
-    box-stops : c ≡ Stop j → boxAt f j .stopped ≡ false → BoxMove (Stopped j) (stopped (boxAt f j))
+    box-serves : {p : Phase} {a : ℕ} → c ≡ Serve p a j → InUse f a → boxAt f j .away ≡ false
+        → BoxMove (Served a) (boxWith (rowDepartment a) (boxAt f j) (registerServed p (rowAt f a) (servedBy f a j)) (boxAt f j .away))
+    box-stops : c ≡ Stop j → boxAt f j .away ≡ false → BoxMove (Stopped j) (stopped (boxAt f j))
 
   -- the row j after the step; an answer is received, whatever comes of it
   pub data RowMove : Outcome → Row → Type 0 where
@@ -282,7 +282,7 @@ pub record RaisesNow (f : Floor) (d : Department) (c : Command) (o : Outcome) (x
 -- Wish 5 of document 02: "Its row is free once it is over and its issued requests are served at every box not stopped."
 pub record Free (f : Floor) (a : ℕ) : Type 0 where
   pub over : isActive (ownerAt f a .state) a ≡ false
-  pub served : (b : ℕ) → b < f .n → boxAt f b .stopped ≡ false → (p : Phase) → isWaiting (standingOf (requestsOf p (rowAt f a)) b) ≡ false
+  pub served : (b : ℕ) → b < f .n → boxAt f b .away ≡ false → (p : Phase) → isWaiting (standingOf (requestsOf p (rowAt f a)) b) ≡ false
 
 -- "With all 64 used, begin takes the free row with the smallest rank, of equals the lowest"; with fewer it takes the next. Wish 6: among the
 -- rows of the department d.
@@ -317,7 +317,7 @@ pub record StepClaims : Type 0 where
   pub standing : (f : Floor) (r : List ℕ) → Sound f → Lengths f → (a : ℕ) → a < 128 → (p : Phase) (b : ℕ) → b < f .n
       → StandingMove f (commandOf r) a p b (stepOf f r .outcome) (standingOf (requestsOf p (rowAt f a)) b) (standingOf (requestsOf p (rowAt (stepOf f r .floor) a)) b)
   -- "Stop box b, for good": a stopped box never changes again. "a station leaves for good": one that is gone stays gone
-  pub stopped-stays : (f : Floor) (r : List ℕ) (j : ℕ) → boxAt f j .stopped ≡ true → boxAt (stepOf f r .floor) j ≡ boxAt f j
+  pub stopped-stays : (f : Floor) (r : List ℕ) (j : ℕ) → boxAt f j .away ≡ true → boxAt (stepOf f r .floor) j ≡ boxAt f j
   pub gone-stays : (f : Floor) (r : List ℕ) (j : ℕ) → isGone (stationAt f j .state) ≡ true → isGone (stationAt (stepOf f r .floor) j .state) ≡ true
   -- a box's ranks never fall, and each is its old one or that of a row in use, department by department
   pub grown : (f : Floor) (r : List ℕ) (d : Department) (j : ℕ) → Grown f d (registerAt f d j) (registerAt (stepOf f r .floor) d j)

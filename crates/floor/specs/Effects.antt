@@ -113,7 +113,7 @@ deliveredOn f phase a b =
 
 -- "6 Stop box b, for good." Wish 6: "Only box stops, n and m are shared."
 abbrev pub stopped : (x : StorageBox) → StorageBox
-stopped x = record { sails = x .sails; canvas = x .canvas; stopped = true }
+stopped x = record { sails = x .sails; canvas = x .canvas; away = true }
 
 abbrev pub afterStop : (f : Floor) (b : ℕ) → Floor
 afterStop f b = withBox f b (stopped (boxAt f b))

@@ -86,7 +86,7 @@ abbrev pub withBox : (f : Floor) (b : ℕ) (x : StorageBox) → Floor
 withBox f b x = withBoxes f (set (f .boxes) b x)
 
 abbrev pub withRegister : (department : Department) (f : Floor) (b : ℕ) (x : Register) → Floor
-withRegister department f b x = withBox f b (boxWith department (boxAt f b) x (boxAt f b .stopped))
+withRegister department f b x = withBox f b (boxWith department (boxAt f b) x (boxAt f b .away))
 
 abbrev pub withStation : (f : Floor) (s : ℕ) (x : Station) → Floor
 withStation f s x = withStations f (set (f .stations) s x)

@@ -25,7 +25,7 @@ stillServed before stopped waits = if stopped then before else (if waits then fa
 -- "its issued requests are served at every box not stopped": at none of the first k boxes that has not stopped one of them waits
 unfoldable pub allServed : (w : Row) (boxes : List StorageBox) (k : ℕ) → Bool
 allServed w boxes zero = true
-allServed w boxes (suc k) = stillServed (allServed w boxes k) (getD boxes k box0 .stopped) (waitsAt w k)
+allServed w boxes (suc k) = stillServed (allServed w boxes k) (getD boxes k box0 .away) (waitsAt w k)
 
 -- "An attempt is over when its station no longer reads or writes in it: decided, aborted or gone. Its row is free once it is over and
 -- its issued requests are served at every box not stopped." The row w of the attempt a, whose station is in that state.

@@ -30,7 +30,7 @@ unfoldable pub serveRefusal : (f : Floor) (phase : Phase) (attempt box : ℕ) �
 serveRefusal f phase attempt box =
     if leb (endOf f (rowDepartment attempt)) attempt then 8
     else if leb (f .n) box then 8
-    else if boxAt f box .stopped then 13
+    else if boxAt f box .away then 13
     else if isWaiting (standingOf (requestsOf phase (rowAt f attempt)) box) then 0
     else 14
 
@@ -47,7 +47,7 @@ deliverRefusal f phase attempt box =
 unfoldable pub stopRefusal : (f : Floor) (box : ℕ) → ℕ
 stopRefusal f box =
     if leb (f .n) box then 8
-    else if boxAt f box .stopped then 13
+    else if boxAt f box .away then 13
     else 0
 
 -- 8, 9

@@ -15,10 +15,10 @@ pub struct Lowest {
 }
 
 // One box more, if it has not stopped.
-fn still_served(before: bool, stopped: bool, waits: bool) -> bool
-    ensures { λ r. ⌜ r ≡ stillServed before stopped waits ⌝ }
+fn still_served(before: bool, away: bool, waits: bool) -> bool
+    ensures { λ r. ⌜ r ≡ stillServed before away waits ⌝ }
 {
-    if stopped {
+    if away {
         return before;
     }
     if waits {
@@ -37,7 +37,7 @@ fn all_served(w: Row, boxes: [StorageBox; 9], n: u8) -> bool
     while k < n {
         let x = boxes[k as usize];
         let waits = attempts::waits_at(w, k);
-        ok = still_served(ok, x.stopped, waits);
+        ok = still_served(ok, x.away, waits);
         k += 1;
     }
     ok

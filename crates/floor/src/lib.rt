@@ -134,7 +134,7 @@ fn empty(n: u8, m: u8, departments: &[u8]) -> Floor
     let storage = StorageBox {
         sails: register,
         canvas: register,
-        stopped: false,
+        away: false,
     };
     let boxes = [storage; 9];
     let stations = stations_told(departments);
@@ -377,7 +377,7 @@ fn run_sound(mut f: Floor, first: Command, records: &[u8], until: Until) -> Ran
             share.highest,
             row,
             register,
-            storage.stopped,
+            storage.away,
             station,
         );
         let y = parts::change(x, c);
@@ -393,7 +393,7 @@ fn run_sound(mut f: Floor, first: Command, records: &[u8], until: Until) -> Ran
         let row2 = z.row;
         let register2 = z.register;
         let station2 = z.station;
-        let storage2 = register::box_with(storage, d, register2, z.stopped);
+        let storage2 = register::box_with(storage, d, register2, z.away);
         let share2 = Share {
             used: z.used,
             highest: z.highest,

@@ -22,7 +22,7 @@ module _ (x : Parts) (p : Phase) (a b : ℕ) (t : Bool) (e : t ≡ (if leb (x .f
   deliver-8 h = on-true _ (sym e ∙ h) refl ∙ choice-either _ _ _ _
 
   module _ (h : t ≡ false) where
-    pub serve-13 : x .stopped ≡ true → 13 ≡ serveIn x p a b
+    pub serve-13 : x .away ≡ true → 13 ≡ serveIn x p a b
     unfolding serveIn
     serve-13 s = on-false _ (sym e ∙ h) (on-true _ s refl) ∙ choice-either _ _ _ _
 
@@ -30,7 +30,7 @@ module _ (x : Parts) (p : Phase) (a b : ℕ) (t : Bool) (e : t ≡ (if leb (x .f
     unfolding deliverIn
     deliver-9 s = on-false _ (sym e ∙ h) (on-true _ s refl) ∙ choice-either _ _ _ _
 
-    module _ (s : x .stopped ≡ false) (w : Bool) (ew : w ≡ isWaiting (standingOf (requestsOf p (x .row)) b)) where
+    module _ (s : x .away ≡ false) (w : Bool) (ew : w ≡ isWaiting (standingOf (requestsOf p (x .row)) b)) where
       pub serve-14 : w ≡ false → 14 ≡ serveIn x p a b
       unfolding serveIn
       serve-14 q = on-false _ (sym e ∙ h) (on-false _ s (on-false _ (sym ew ∙ q) refl)) ∙ choice-either _ _ _ _

@@ -79,7 +79,7 @@ unfoldable pub serveIn : (x : Parts) (p : Phase) (a b : ℕ) → ℕ
 serveIn x p a b =
     if leb (x .first + x .used) a then 8
     else if leb (x .n) b then 8
-    else if x .stopped then 13
+    else if x .away then 13
     else if isWaiting (standingOf (requestsOf p (x .row)) b) then 0
     else 14
 
@@ -94,7 +94,7 @@ deliverIn x p a b =
 unfoldable pub stopIn : (x : Parts) (b : ℕ) → ℕ
 stopIn x b =
     if leb (x .n) b then 8
-    else if x .stopped then 13
+    else if x .away then 13
     else 0
 
 unfoldable pub leaveIn : (x : Parts) (s : ℕ) → ℕ
@@ -123,7 +123,7 @@ withParts x row register stopped station =
       highest = x .highest;
       row = row;
       register = register;
-      stopped = stopped;
+      away = stopped;
       station = station;
     }
 
@@ -140,7 +140,7 @@ begun x s round v =
         highest = max (x .highest) (rankOf round s);
         row = newRow (x .n) s round v;
         register = x .register;
-        stopped = x .stopped;
+        away = x .away;
         station = record { department = x .station .department; state = state.Reading (x .next); last = round; decided = x .station .decided };
       };
       outcome = said.Begun (x .next);
@@ -149,18 +149,18 @@ begun x s round v =
 unfoldable pub served : (x : Parts) (p : Phase) (a b : ℕ) → Changed
 served x p a b =
     record {
-      parts = withParts x (rowServed p (x .row) (x .register) b) (registerServed p (x .row) (x .register)) (x .stopped) (x .station);
+      parts = withParts x (rowServed p (x .row) (x .register) b) (registerServed p (x .row) (x .register)) (x .away) (x .station);
       outcome = said.Served a;
     }
 
 -- the row w is the attempt's, its answer received
 abbrev pub receivedOnly : (x : Parts) (a : ℕ) (w : Row) → Changed
-receivedOnly x a w = record { parts = withParts x w (x .register) (x .stopped) (x .station); outcome = said.Received a }
+receivedOnly x a w = record { parts = withParts x w (x .register) (x .away) (x .station); outcome = said.Received a }
 
 abbrev pub writeIssued : (x : Parts) (a : ℕ) (w : Row) (v : ℕ) → Changed
 writeIssued x a w v =
     record {
-      parts = withParts x (issued w v (x .n)) (x .register) (x .stopped) (withState (x .station) (state.Writing a));
+      parts = withParts x (issued w v (x .n)) (x .register) (x .away) (withState (x .station) (state.Writing a));
       outcome = said.WriteIssued v;
     }
 
@@ -168,12 +168,12 @@ unfoldable pub readEnded : (x : Parts) (a : ℕ) (w : Row) → Changed
 readEnded x a w = writeIssued x a w (revisionOf w (x .n))
 
 abbrev pub abortedBy : (x : Parts) (a : ℕ) (w : Row) → Changed
-abortedBy x a w = record { parts = withParts x w (x .register) (x .stopped) (withState (x .station) state.Idle); outcome = said.Aborted a }
+abortedBy x a w = record { parts = withParts x w (x .register) (x .away) (withState (x .station) state.Idle); outcome = said.Aborted a }
 
 abbrev pub decidedBy : (x : Parts) (a : ℕ) (w : Row) → Changed
 decidedBy x a w =
     record {
-      parts = withParts x w (x .register) (x .stopped) (record { department = x .station .department; state = state.Decided a; last = x .station .last; decided = Revision (w .written) });
+      parts = withParts x w (x .register) (x .away) (record { department = x .station .department; state = state.Decided a; last = x .station .last; decided = Revision (w .written) });
       outcome = said.Decided (w .written);
     }
 
@@ -196,7 +196,7 @@ stoppedBox x b =
     }
 
 abbrev pub goneStation : (x : Parts) (s : ℕ) → Changed
-goneStation x s = record { parts = withParts x (x .row) (x .register) (x .stopped) (withState (x .station) state.Gone); outcome = said.Gone s }
+goneStation x s = record { parts = withParts x (x .row) (x .register) (x .away) (withState (x .station) state.Gone); outcome = said.Gone s }
 
 abbrev pub turnedBack : (x : Parts) (k : ℕ) → Changed
 turnedBack x k = record { parts = x; outcome = said.Refused k }

@@ -32,7 +32,7 @@ pub struct Parts {
     pub highest: u32,
     pub row: Row,
     pub register: Register,
-    pub stopped: bool,
+    pub away: bool,
     pub station: Station,
 }
 
@@ -51,10 +51,10 @@ pub fn gathered(
     highest: u32,
     row: Row,
     register: Register,
-    stopped: bool,
+    away: bool,
     station: Station,
 ) -> Parts
-    ensures { λ r. ⌜ r ≡ record { n = n; m = m; first = first; used = used; next = next; highest = highest; row = row; register = register; stopped = stopped; station = station } ⌝ }
+    ensures { λ r. ⌜ r ≡ record { n = n; m = m; first = first; used = used; next = next; highest = highest; row = row; register = register; away = away; station = station } ⌝ }
 {
     Parts {
         n,
@@ -65,7 +65,7 @@ pub fn gathered(
         highest,
         row,
         register,
-        stopped,
+        away,
         station,
     }
 }

@@ -14,7 +14,7 @@ pub(crate) fn serve_refusal(x: Parts, p: Phase, a: u8, b: u8) -> u8
     if unknown {
         return 8;
     }
-    if x.stopped {
+    if x.away {
         return 13;
     }
     if !attempts::waits(w, p, b) {

@@ -11,7 +11,7 @@ pub(crate) fn stop_refusal(x: Parts, b: u8) -> u8
     if x.n <= b {
         return 8;
     }
-    if x.stopped {
+    if x.away {
         return 13;
     }
     0
@@ -21,7 +21,7 @@ pub(crate) fn stop(x: Parts, b: u8) -> Changed
     ensures { λ r. ⌜ r ≡ stoppedBox x b ⌝ }
 {
     let mut y = x;
-    y.stopped = true;
+    y.away = true;
     Changed {
         parts: y,
         outcome: Outcome::Stopped(b),

@@ -23,12 +23,12 @@ box-other Canvas Sails x r t n = refl
 box-other Canvas Canvas x r t n = absurd (n refl)
 
 -- a box stored as it was is the box
-pub box-same : (d : Department) (x : StorageBox) → boxWith d x (registerOf d x) (x .stopped) ≡ x
+pub box-same : (d : Department) (x : StorageBox) → boxWith d x (registerOf d x) (x .away) ≡ x
 box-same Sails x = refl
 box-same Canvas x = refl
 
 -- and one that stops keeps both records, whichever department stores it
-pub stop-box : (d : Department) (x : StorageBox) → boxWith d x (registerOf d x) true ≡ record { sails = x .sails; canvas = x .canvas; stopped = true }
+pub stop-box : (d : Department) (x : StorageBox) → boxWith d x (registerOf d x) true ≡ record { sails = x .sails; canvas = x .canvas; away = true }
 stop-box Sails x = refl
 stop-box Canvas x = refl
 

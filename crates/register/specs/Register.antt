@@ -31,7 +31,7 @@ abbrev pub register0 : Register
 register0 = record { read = 0; write = 0; value = 0 }
 
 abbrev pub box0 : StorageBox
-box0 = record { sails = register0; canvas = register0; stopped = false }
+box0 = record { sails = register0; canvas = register0; away = false }
 
 -- the record of the department
 abbrev pub registerOf : (department : Department) (x : StorageBox) → Register
@@ -40,7 +40,7 @@ registerOf department x = ofDepartment department (x .sails) (x .canvas)
 -- the box x with the record of the department and whether it has stopped replaced: the record of the other stays
 abbrev pub boxWith : (department : Department) (x : StorageBox) (register : Register) (stopped : Bool) → StorageBox
 boxWith department x register stopped =
-    record { sails = ofDepartment department register (x .sails); canvas = ofDepartment department (x .canvas) register; stopped = stopped }
+    record { sails = ofDepartment department register (x .sails); canvas = ofDepartment department (x .canvas) register; away = stopped }
 
 -- Wish 2: "A box with a read or write rank above r". Equal ranks are not above.
 unfoldable pub outranks : (x : Register) (rank : ℕ) → Bool

@@ -20,7 +20,7 @@ pub struct Register {
 pub struct StorageBox {
     pub sails: Register,
     pub canvas: Register,
-    pub stopped: bool,
+    pub away: bool,
 }
 
 // What a read answers: the write rank and the value that are held, or that a higher rank was served (the nack of a phase 1).
@@ -52,11 +52,11 @@ pub fn register_of(x: StorageBox, d: Department) -> Register
 }
 
 // The box with the department's register stored, and whether it has stopped; the other department's register stays.
-pub fn box_with(x: StorageBox, d: Department, register: Register, stopped: bool) -> StorageBox
-    ensures { λ y. ⌜ y ≡ boxWith d x register stopped ⌝ }
+pub fn box_with(x: StorageBox, d: Department, register: Register, away: bool) -> StorageBox
+    ensures { λ y. ⌜ y ≡ boxWith d x register away ⌝ }
 {
     let mut y = x;
-    y.stopped = stopped;
+    y.away = away;
     match d {
         Department::Sails => {
             y.sails = register;

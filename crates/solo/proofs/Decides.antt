@@ -89,7 +89,7 @@ module _ (f : Floor) (s v : ℕ) (highest : Bool) (z : Sound f) (l : Lengths f) 
     begun = taken-use f s round v (can .row);
     owner = ap (λ (w : Row). w .station) new-row;
     rank = ap (λ (w : Row). w .rank) new-row;
-    boxes = λ j. let own = next-own f (departmentAt f s) (can .row) in record { stopped = refl; read = λ i. rw own (low j i .0); write = λ i _. rw own (low j i .1) };
+    boxes = λ j. let own = next-own f (departmentAt f s) (can .row) in record { away = refl; read = λ i. rw own (low j i .0); write = λ i _. rw own (low j i .1) };
     state = ap (λ (x : Station). x .state) (station-stored f l z s _ (can .station));
   }
 

@@ -70,7 +70,7 @@ heldBy t x = registerOf (ownOf t) x
 -- a box has stopped where it had; where the attempt's rank is the highest, the box has served no higher one, and from box p on it
 -- has not served the attempt's write
 pub record BoxOk (t : Attempt) (p j : ℕ) (x : StorageBox) : Type 0 where
-  pub stopped : x .stopped ≡ getD (t .boxes) j box0 .stopped
+  pub away : x .away ≡ getD (t .boxes) j box0 .away
   pub read : t .highest ≡ true → heldBy t x .read ≤ t .rank
   pub write : t .highest ≡ true → p ≤ j → heldBy t x .write < t .rank
 
@@ -141,17 +141,17 @@ in-holds Write a = writing-holds a
 
 -- the box with the record that the routine left for the attempt's department
 abbrev withHeld : (t : Attempt) (x : StorageBox) (r : Register) → StorageBox
-withHeld t x r = boxWith (ownOf t) x r (x .stopped)
+withHeld t x r = boxWith (ownOf t) x r (x .away)
 
-held-ok : (t : Attempt) {p b : ℕ} (x : StorageBox) (r : Register) → x .stopped ≡ getD (t .boxes) b box0 .stopped → (t .highest ≡ true → r .read ≤ t .rank)
+held-ok : (t : Attempt) {p b : ℕ} (x : StorageBox) (r : Register) → x .away ≡ getD (t .boxes) b box0 .away → (t .highest ≡ true → r .read ≤ t .rank)
     → (t .highest ≡ true → p ≤ b → r .write < t .rank) → BoxOk t p b (withHeld t x r)
 held-ok t x r s h k =
-    let e = box-own (ownOf t) x r (x .stopped) in
-    record { stopped = s; read = λ i. rw e (h i); write = λ i u. rw e (k i u) }
+    let e = box-own (ownOf t) x r (x .away) in
+    record { away = s; read = λ i. rw e (h i); write = λ i u. rw e (k i u) }
 
 box-read : {t : Attempt} {p b r : ℕ} {x : StorageBox} {d : ReadDone} → r ≡ t .rank → BoxOk t p b x → ReadCase (heldBy t x) r d → BoxOk t p b (withHeld t x (d .register))
-box-read {t} {x = x} e o (outranked h) = held-ok t x (heldBy t x) (o .stopped) (o .read) (o .write)
-box-read {t} {x = x} e o (answered h k) = held-ok t x _ (o .stopped) (λ i. rw e (le-refl (t .rank))) (o .write)
+box-read {t} {x = x} e o (outranked h) = held-ok t x (heldBy t x) (o .away) (o .read) (o .write)
+box-read {t} {x = x} e o (answered h k) = held-ok t x _ (o .away) (λ i. rw e (le-refl (t .rank))) (o .write)
 
 read-answers : {r : ℕ} {x : Register} {d : ReadDone} → x .read ≤ r → x .write ≤ r → ReadCase x r d → isHeld (d .answer) ≡ true
 read-answers h k (outranked (inl e)) = absurd (omega arith)
@@ -162,7 +162,7 @@ box-answers : {t : Attempt} {b : ℕ} {x : StorageBox} (r : ℕ) → r ≡ t .ra
 box-answers {t} {x = x} r e o i = read-answers (rw e (o .read i)) (omega (arith, e, o .write i (omega arith))) (read-case (heldBy t x) r)
 
 box-written : {t : Attempt} {p b : ℕ} {x : StorageBox} (r v : ℕ) → BoxOk t p b x → BoxOk t (b + 1) b (withHeld t x (rmwWrite (heldBy t x) r v .register))
-box-written {t} {x = x} r v o = held-ok t x _ (o .stopped) (λ i. rw (write-keeps-read (heldBy t x) r v) (o .read i)) (λ i u. absurd (omega arith))
+box-written {t} {x = x} r v o = held-ok t x _ (o .away) (λ i. rw (write-keeps-read (heldBy t x) r v) (o .read i)) (λ i u. absurd (omega arith))
 
 box-served : {t : Attempt} {b : ℕ} {x : StorageBox} (p : ℕ) (f : Phase) (w : Row) → w .rank ≡ t .rank → BoxOk t (askedBelow f p) b x
     → BoxOk t (askedBelow f (b + 1)) b (withHeld t x (registerServed f w (heldBy t x)))
@@ -171,7 +171,7 @@ box-served p Write w e o = box-written (w .rank) (w .written) o
 
 box-later : {t : Attempt} {p b j : ℕ} {x : StorageBox} (f : Phase) → p ≤ b → BoxOk t (askedBelow f p) j x → BoxOk t (askedBelow f (b + 1)) j x
 box-later Read l o = o
-box-later Write l o = record { stopped = o .stopped; read = o .read; write = λ i u. o .write i (omega arith) }
+box-later Write l o = record { away = o .away; read = o .read; write = λ i u. o .write i (omega arith) }
 
 box-takes : {t : Attempt} {p b : ℕ} {x : StorageBox} (r v : ℕ) → r ≡ t .rank → p ≤ b → BoxOk t p b x → t .highest ≡ true → rmwWrite (heldBy t x) r v .taken ≡ true
 box-takes {t} {x = x} r v e l o i = write-answers (heldBy t x) r v ∙ takes-both (heldBy t x) r (rw e (o .read i)) (rw e (o .write i l))
@@ -194,11 +194,11 @@ module _ {t : Attempt} {p b : ℕ} {x : StorageBox} (w : Row) (e : w .rank ≡ t
 
 -- box b, which answers and was not asked yet, serves the request
 module _ {t : Attempt} {g : Floor} {p k : ℕ} (f : Phase) (d : Driven t f p g) (r : RequestsAt t p k (requestsOf f (rowAt g (t .number)))) (b : ℕ) (l : p ≤ b) (h : b < t .n)
-    (o : getD (t .boxes) b box0 .stopped ≡ false) where
+    (o : getD (t .boxes) b box0 .away ≡ false) where
   pub served : applyOf g (Serve f (t .number) b) ≡ stepped (afterServe g f (t .number) b) (Served (t .number))
   served =
       serve-accepted g (d .sound) (t .number) b f
-      (record { used = d .begun; box = rw (d .size) h; answers = d .boxes b .stopped ∙ o; waits = r .waiting b l h })
+      (record { used = d .begun; box = rw (d .size) h; answers = d .boxes b .away ∙ o; waits = r .waiting b l h })
 
   pub served-driven : Driven t f (b + 1) (afterServe g f (t .number) b)
   served-driven =

@@ -70,7 +70,7 @@ pub record AtPhase (t : Attempt) (f : Phase) (p k : ℕ) (g : Floor) : Type 0 wh
   pub requests : RequestsAt t p k (requestsOf f (rowAt g (t .number)))
 
 -- one exchange more, before the q-th and as the q-th
-module _ (t : Attempt) (p k c b : ℕ) (l : p ≤ b) (h : b < t .n) (o : getD (t .boxes) b box0 .stopped ≡ false) (g : Floor) where
+module _ (t : Attempt) (p k c b : ℕ) (l : p ≤ b) (h : b < t .n) (o : getD (t .boxes) b box0 .away ≡ false) (g : Floor) where
   module _ (f : Phase) (r : AtPhase t f p k g) where
     abbrev next : Floor
     next = afterServe g f (t .number) b
@@ -136,13 +136,13 @@ module _ (t : Attempt) (p k c b : ℕ) (l : p ≤ b) (h : b < t .n) (o : getD (t
 -- boxes in ascending order from p on that have not stopped
 abbrev pub Ascending : Attempt → ℕ → List ℕ → Type 0
 Ascending t p [] = Unit {0}
-Ascending t p (b ∷ bs) = (p ≤ b) × (b < t .n) × (getD (t .boxes) b box0 .stopped ≡ false) × Ascending t (b + 1) bs
+Ascending t p (b ∷ bs) = (p ≤ b) × (b < t .n) × (getD (t .boxes) b box0 .away ≡ false) × Ascending t (b + 1) bs
 
 -- a phase that starts after `start` steps: an exchange with each of q boxes, of which `last` is the q-th, and then the rest; where the
 -- attempt's rank is not the highest it may end before
 module _ (t : Attempt) (f : Phase) (start : ℕ) (rest : List (List ℕ))
     (early : (k : ℕ) → k + 1 < quorum (t .n) → f ≡ Read → t .highest ≡ false → Over t (Aborted (t .number)) (start + 2 * k + 1 + 1))
-    (last : (p k b : ℕ) → p ≤ b → b < t .n → getD (t .boxes) b box0 .stopped ≡ false → (g : Floor) → AtPhase t f p k g → k + 1 ≡ quorum (t .n)
+    (last : (p k b : ℕ) → p ≤ b → b < t .n → getD (t .boxes) b box0 .away ≡ false → (g : Floor) → AtPhase t f p k g → k + 1 ≡ quorum (t .n)
     → Leads t (start + 2 * k) g (exchange f (t .number) b ++ rest)) where
   phase-driven : (bs : List ℕ) (b p k : ℕ) (g : Floor) → k + length (b ∷ bs) ≡ quorum (t .n) → Ascending t p (b ∷ bs) → AtPhase t f p k g
       → Leads t (start + 2 * k) g (exchanges f (t .number) (b ∷ bs) ++ rest)

@@ -28,11 +28,11 @@ pub one-box : (n b : ℕ) → b < n → n - b ≡ suc (n - (b + 1))
 one-box n b h = omega arith
 
 module _ (k b : ℕ) (boxes : List StorageBox) where
-  pub answering-skip : getD boxes b box0 .stopped ≡ true → answeringFrom (suc k) b boxes ≡ answeringFrom k (b + 1) boxes
+  pub answering-skip : getD boxes b box0 .away ≡ true → answeringFrom (suc k) b boxes ≡ answeringFrom k (b + 1) boxes
   unfolding answeringFrom
   answering-skip e = sym (on-true _ e refl)
 
-  pub answering-take : getD boxes b box0 .stopped ≡ false → answeringFrom (suc k) b boxes ≡ b ∷ answeringFrom k (b + 1) boxes
+  pub answering-take : getD boxes b box0 .away ≡ false → answeringFrom (suc k) b boxes ≡ b ∷ answeringFrom k (b + 1) boxes
   unfolding answeringFrom
   answering-take e = sym (on-false _ e refl)
 
@@ -77,12 +77,12 @@ count-start boxes n = (omega arith, omega arith, rw (sub-zero, zero-add))
 
 module _ (boxes : List StorageBox) (n c b : ℕ) (i : CountInv boxes n c b) where
   module _ (h : b < n) (c' : ℕ) where
-    pub count-one : getD boxes b box0 .stopped ≡ false → c' ≡ c + 1 → CountInv boxes n c' (b + 1)
+    pub count-one : getD boxes b box0 .away ≡ false → c' ≡ c + 1 → CountInv boxes n c' (b + 1)
     count-one s e =
         let l = ap length (answering-take (n - (b + 1)) b boxes s) in
         (omega arith, omega arith, omega (arith, rw (one-box n b h) at (i .2)))
 
-    pub count-none : getD boxes b box0 .stopped ≡ true → c' ≡ c → CountInv boxes n c' (b + 1)
+    pub count-none : getD boxes b box0 .away ≡ true → c' ≡ c → CountInv boxes n c' (b + 1)
     count-none s e =
         let l = ap length (answering-skip (n - (b + 1)) b boxes s) in
         (omega arith, omega arith, omega (arith, rw (one-box n b h) at (i .2)))

@@ -71,10 +71,10 @@ exchangesFrom k b boxes p a q = exchanges p a (take q (answeringFrom k b boxes))
 
 -- box b has stopped; an exchange is made with it; enough were made; no box is left
 module _ (k b : ℕ) (boxes : List StorageBox) (p : Phase) (a : ℕ) where
-  phase-skip : (q : ℕ) → getD boxes b box0 .stopped ≡ true → exchangesFrom (suc k) b boxes p a q ≡ exchangesFrom k (b + 1) boxes p a q
+  phase-skip : (q : ℕ) → getD boxes b box0 .away ≡ true → exchangesFrom (suc k) b boxes p a q ≡ exchangesFrom k (b + 1) boxes p a q
   phase-skip q e = rw (answering-skip k b boxes e)
 
-  phase-take : (q j : ℕ) → q ≡ suc j → getD boxes b box0 .stopped ≡ false
+  phase-take : (q j : ℕ) → q ≡ suc j → getD boxes b box0 .away ≡ false
       → exchangesFrom (suc k) b boxes p a q ≡ exchange p a b ++ exchangesFrom k (b + 1) boxes p a j
   unfolding exchanges
   phase-take q j h e = rw (answering-take k b boxes e, h)
@@ -102,7 +102,7 @@ writing-none s at n p a boxes q e = rw e (record { within = omega arith; same = 
 
 module _ {s : List ℕ} {at n : ℕ} {p : Phase} {a : ℕ} {boxes : List StorageBox} {l : List ℕ} {end left b : ℕ} (w : Writing s at n p a boxes l end left b) where
   module _ (h : b < n) {l' : List ℕ} {end' left' : ℕ} where
-    pub box-skipped : getD boxes b box0 .stopped ≡ true → l' ≡ l → end' ≡ end → left' ≡ left → Writing s at n p a boxes l' end' left' (b + 1)
+    pub box-skipped : getD boxes b box0 .away ≡ true → l' ≡ l → end' ≡ end → left' ≡ left → Writing s at n p a boxes l' end' left' (b + 1)
     box-skipped o el ee ef =
         rw (el, ee, ef) (record {
           within = omega arith;
@@ -116,7 +116,7 @@ module _ {s : List ℕ} {at n : ℕ} {p : Phase} {a : ℕ} {boxes : List Storage
         let o : left ≡ 0 = omega arith in
         rw (el, ee, ef) (record { within = omega arith; same = w .same; room = w .room; bytes = rw (o, phase-enough) (rw (o, phase-enough) at (w .bytes)) })
 
-    pub box-asked : {x : List ℕ} → getD boxes b box0 .stopped ≡ false → 0 < left → l' ≡ x → length x ≡ length l
+    pub box-asked : {x : List ℕ} → getD boxes b box0 .away ≡ false → 0 < left → l' ≡ x → length x ≡ length l
         → take (end + 16) x ≡ take end l ++ flatten (exchange p a b) → end' ≡ end + 16 → left' ≡ left - 1 → Writing s at n p a boxes l' end' left' (b + 1)
     unfolding flatten exchange
     box-asked o z el es eb ee ef =

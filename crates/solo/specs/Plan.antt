@@ -32,7 +32,7 @@ roundOf f station = roundAbove (highestBegun f station) station
 unfoldable pub answeringFrom : (k b : ℕ) (boxes : List StorageBox) → List ℕ
 answeringFrom zero b boxes = []
 answeringFrom (suc k) b boxes =
-    if getD boxes b box0 .stopped then answeringFrom k (b + 1) boxes
+    if getD boxes b box0 .away then answeringFrom k (b + 1) boxes
     else b ∷ answeringFrom k (b + 1) boxes
 
 abbrev pub answering : (f : Floor) → List ℕ

@@ -71,7 +71,7 @@ fn count_answering(boxes: [StorageBox; 9], n: u8) -> u8
     let mut k: u8 = 0;
     while k < n {
         let x = boxes[k as usize];
-        if !x.stopped {
+        if !x.away {
             c += 1;
         }
         k += 1;
@@ -152,7 +152,7 @@ fn put_phase(out: &mut [u8], at: usize, boxes: [StorageBox; 9], n: u8, p: Phase,
     let mut b: u8 = 0;
     while b < n {
         let x = boxes[b as usize];
-        if !x.stopped {
+        if !x.away {
             if 0 < left {
                 left -= 1;
                 put_exchange(out, end, p, a, b);

@@ -75,7 +75,7 @@ fn storage(x: StorageBox, r: [u8; 8]) -> StorageBox {
         value: r[4] as u32,
     };
     let mut y = x;
-    y.stopped = r[5] != 0;
+    y.away = r[5] != 0;
     if r[6] == 0 {
         y.sails = register;
         return y;

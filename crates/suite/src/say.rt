@@ -296,7 +296,7 @@ fn storage(number: u8, b: StorageBox) {
         &[number as u64, r.read as u64, r.write as u64, r.value as u64],
     );
     canvas_record(c);
-    text::pick(b"|, stopped", b.stopped as u8, &[]);
+    text::pick(b"|, stopped", b.away as u8, &[]);
 }
 
 fn box_line(number: u8, b: StorageBox) {

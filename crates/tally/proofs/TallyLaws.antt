@@ -34,21 +34,21 @@ module _ (d : Department) where
   tally-nil = refl
 
   -- one box more, at the front: a stopped one changes nothing, another is counted
-  pub tally-stopped : (b : StorageBox) (bs : List StorageBox) → b .stopped ≡ true → tallyOf d (b ∷ bs) ≡ tallyOf d bs
+  pub tally-stopped : (b : StorageBox) (bs : List StorageBox) → b .away ≡ true → tallyOf d (b ∷ bs) ≡ tallyOf d bs
   unfolding tallyOf notStopped if_then_else_
   tally-stopped b bs e = rw e refl
 
-  pub tally-going : (b : StorageBox) (bs : List StorageBox) → b .stopped ≡ false → tallyOf d (b ∷ bs) ≡ record { count = tallyOf d bs .count + 1; highest = max (tallyOf d bs .highest) (registerOf d b .write) }
+  pub tally-going : (b : StorageBox) (bs : List StorageBox) → b .away ≡ false → tallyOf d (b ∷ bs) ≡ record { count = tallyOf d bs .count + 1; highest = max (tallyOf d bs .highest) (registerOf d b .write) }
   unfolding tallyOf notStopped highestWrite if_then_else_
   tally-going b bs e = rw (e, add-one) refl
 
-  cons-by : (s : Bool) (b : StorageBox) (bs : List StorageBox) → b .stopped ≡ s → tallyOf d (b ∷ bs) ≡ oneMore d b (tallyOf d bs)
+  cons-by : (s : Bool) (b : StorageBox) (bs : List StorageBox) → b .away ≡ s → tallyOf d (b ∷ bs) ≡ oneMore d b (tallyOf d bs)
   unfolding oneMore
   cons-by true b bs e = on-true _ e (tally-stopped b bs e)
   cons-by false b bs e = on-false _ e (tally-going b bs e)
 
   pub tally-cons : (b : StorageBox) (bs : List StorageBox) → tallyOf d (b ∷ bs) ≡ oneMore d b (tallyOf d bs)
-  tally-cons b bs = cons-by (b .stopped) b bs refl
+  tally-cons b bs = cons-by (b .away) b bs refl
 
   -- the tally of the boxes from j on, from that of the boxes behind box j
   pub tally-at : (bs : List StorageBox) (i j : ℕ) (x : StorageBox) (t r : Tally) → i ≡ suc j → j < length bs → t ≡ tallyOf d (drop i bs) → r ≡ oneMore d (getD bs j x) t → r ≡ tallyOf d (drop j bs)
@@ -61,13 +61,13 @@ module _ (d : Department) where
   tally-end bs i h = sym tally-nil ∙ ap (tallyOf d) (sym (drop-of-length-le bs h))
 
   -- no more are counted than there are
-  count-by : (s : Bool) (b : StorageBox) (bs : List StorageBox) → b .stopped ≡ s → tallyOf d bs .count ≤ length bs → tallyOf d (b ∷ bs) .count ≤ length (b ∷ bs)
+  count-by : (s : Bool) (b : StorageBox) (bs : List StorageBox) → b .away ≡ s → tallyOf d bs .count ≤ length bs → tallyOf d (b ∷ bs) .count ≤ length (b ∷ bs)
   count-by true b bs e h = rw (tally-stopped b bs e) (omega (arith, h))
   count-by false b bs e h = rw (tally-going b bs e) (omega (arith, h))
 
   pub count-le : (bs : List StorageBox) → tallyOf d bs .count ≤ length bs
   count-le [] = rw tally-nil (le-refl 0)
-  count-le (b ∷ bs) = count-by (b .stopped) b bs refl (count-le bs)
+  count-le (b ∷ bs) = count-by (b .away) b bs refl (count-le bs)
 
   -- so that the count of fewer than 2 ^ 64 - 1 boxes has room for one more
   pub count-fits : (t : Tally) (bs : List StorageBox) → t ≡ tallyOf d bs → length bs + 1 < 2 ^ 64 → t .count + 1 < 2 ^ 64
@@ -75,14 +75,14 @@ module _ (d : Department) where
 
   -- ---- the tally as facts
   -- no box that has not stopped has a higher write rank
-  most-behind : (s : Bool) (b : StorageBox) (bs : List StorageBox) (r : ℕ) → b .stopped ≡ s → r ≤ tallyOf d bs .highest → r ≤ tallyOf d (b ∷ bs) .highest
+  most-behind : (s : Bool) (b : StorageBox) (bs : List StorageBox) (r : ℕ) → b .away ≡ s → r ≤ tallyOf d bs .highest → r ≤ tallyOf d (b ∷ bs) .highest
   most-behind true b bs r e h = rw (tally-stopped b bs e) h
   most-behind false b bs r e h = rw (tally-going b bs e) (le-trans h (le-max-left (tallyOf d bs .highest) (registerOf d b .write)))
 
-  most : (bs : List StorageBox) (x : StorageBox) → List·Memᴰ x bs → x .stopped ≡ false → registerOf d x .write ≤ tallyOf d bs .highest
+  most : (bs : List StorageBox) (x : StorageBox) → List·Memᴰ x bs → x .away ≡ false → registerOf d x .write ≤ tallyOf d bs .highest
   most [] x m e = absurd (List·Memᴰ·not-nil m)
   most (b ∷ bs) x (List·Memᴰ·head q) e = rw (q, tally-going b bs (rw q at e)) (le-max-right (tallyOf d bs .highest) (registerOf d b .write))
-  most (b ∷ bs) x (List·Memᴰ·tail m) e = most-behind (b .stopped) b bs (registerOf d x .write) refl (most bs x m e)
+  most (b ∷ bs) x (List·Memᴰ·tail m) e = most-behind (b .away) b bs (registerOf d x .write) refl (most bs x m e)
 
   -- where none is counted the rank is 0
   none-left : (l : List StorageBox) → length l ≡ 0 → highestWrite d l ≡ 0
@@ -95,7 +95,7 @@ module _ (d : Department) where
   none-counted bs e = none-left (notStopped bs) e
 
   -- where all have stopped none is counted
-  all-stopped : (bs : List StorageBox) → ((b : StorageBox) → List·Memᴰ b bs → b .stopped ≡ true) → tallyOf d bs .count ≡ 0
+  all-stopped : (bs : List StorageBox) → ((b : StorageBox) → List·Memᴰ b bs → b .away ≡ true) → tallyOf d bs .count ≡ 0
   all-stopped [] h = ap (λ (t : Tally). t .count) tally-nil
   all-stopped (b ∷ bs) h = ap (λ (t : Tally). t .count) (tally-stopped b bs (h b (List·Memᴰ·head refl))) ∙ all-stopped bs (λ x m. h x (List·Memᴰ·tail m))
 
@@ -107,7 +107,7 @@ module _ (d : Department) where
   reached-behind b bs r x = (x .0, (record { member = List·Memᴰ·tail (x .1 .0 .member); going = x .1 .0 .going }, x .1 .1))
 
   -- the first box has the larger of two ranks, or one behind it
-  first-or-behind : (b : StorageBox) (bs : List StorageBox) (h : ℕ) (t : Bool) → ltb (registerOf d b .write) h ≡ t → b .stopped ≡ false → (0 < h → Reached bs h) → Reached (b ∷ bs) (max h (registerOf d b .write))
+  first-or-behind : (b : StorageBox) (bs : List StorageBox) (h : ℕ) (t : Bool) → ltb (registerOf d b .write) h ≡ t → b .away ≡ false → (0 < h → Reached bs h) → Reached (b ∷ bs) (max h (registerOf d b .write))
   first-or-behind b bs h true l f k =
       let lt : registerOf d b .write < h = ltb-true (registerOf d b .write) h l in
       subst (Reached (b ∷ bs)) (sym (max-eq-left (le-of-lt lt))) (reached-behind b bs h (k (omega (arith, lt))))
@@ -121,14 +121,14 @@ module _ (d : Department) where
       by-count (inl z) = absurd (omega (arith, p, none-counted bs z))
       by-count (inr q) = q
 
-  reached-by : (s : Bool) (b : StorageBox) (bs : List StorageBox) → b .stopped ≡ s → (0 < tallyOf d bs .count → Reached bs (tallyOf d bs .highest))
+  reached-by : (s : Bool) (b : StorageBox) (bs : List StorageBox) → b .away ≡ s → (0 < tallyOf d bs .count → Reached bs (tallyOf d bs .highest))
       → 0 < tallyOf d (b ∷ bs) .count → Reached (b ∷ bs) (tallyOf d (b ∷ bs) .highest)
   reached-by true b bs e k p = rw (tally-stopped b bs e) (reached-behind b bs (tallyOf d bs .highest) (k (subst (λ (t : Tally). 0 < t .count) (tally-stopped b bs e) p)))
   reached-by false b bs e k p = rw (tally-going b bs e) (first-or-behind b bs (tallyOf d bs .highest) (ltb (registerOf d b .write) (tallyOf d bs .highest)) refl e (λ q. k (some-counted bs q)))
 
   reached : (bs : List StorageBox) → 0 < tallyOf d bs .count → Reached bs (tallyOf d bs .highest)
   reached [] p = absurd (not-suc-le-zero (subst (λ (t : Tally). 0 < t .count) tally-nil p))
-  reached (b ∷ bs) p = reached-by (b .stopped) b bs refl (reached bs) p
+  reached (b ∷ bs) p = reached-by (b .away) b bs refl (reached bs) p
 
 -- what a tally means
 pub tallied : TallyTheorem

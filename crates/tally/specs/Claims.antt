@@ -13,7 +13,7 @@ use Rattle.tally.specs.declared.Tally.{Tally}
 -- a box of a run that has not stopped
 pub record Counts (bs : List StorageBox) (b : StorageBox) : Type 0 where
   pub member : List·Memᴰ b bs
-  pub going : b .stopped ≡ false
+  pub going : b .away ≡ false
 
 -- the tally of a department as facts
 pub record Tallied (d : Department) (bs : List StorageBox) (t : Tally) : Type 0 where
@@ -23,7 +23,7 @@ pub record Tallied (d : Department) (bs : List StorageBox) (t : Tally) : Type 0 
   pub most : (b : StorageBox) → Counts bs b → registerOf d b .write ≤ t .highest
   pub reached : 0 < t .count → (b : StorageBox) × (Counts bs b × (registerOf d b .write ≡ t .highest))
   -- "a run with none of these, or empty, gives 0 and 0"
-  pub none : ((b : StorageBox) → List·Memᴰ b bs → b .stopped ≡ true) → (t .count ≡ 0) × (t .highest ≡ 0)
+  pub none : ((b : StorageBox) → List·Memᴰ b bs → b .away ≡ true) → (t .count ≡ 0) × (t .highest ≡ 0)
 
 -- It holds of each department and every run.
 abbrev pub TallyTheorem : Type 0

@@ -13,7 +13,7 @@ use Rattle.tally.specs.declared.Tally.{Tally}
 -- the boxes of a run that have not stopped, whichever the department. Wish 6: "Only box stops, n and m are shared."
 unfoldable pub notStopped : (run : List StorageBox) → List StorageBox
 notStopped [] = []
-notStopped (b ∷ bs) = if b .stopped then notStopped bs else b ∷ notStopped bs
+notStopped (b ∷ bs) = if b .away then notStopped bs else b ∷ notStopped bs
 
 -- the highest write rank of the department's records in some boxes, 0 where there are none
 unfoldable pub highestWrite : (department : Department) (run : List StorageBox) → ℕ
@@ -26,4 +26,4 @@ tallyOf d bs = record { count = length (notStopped bs); highest = highestWrite d
 
 -- a tally with one box more
 unfoldable pub oneMore : (department : Department) (b : StorageBox) (t : Tally) → Tally
-oneMore d b t = if b .stopped then t else record { count = t .count + 1; highest = max (t .highest) (registerOf d b .write) }
+oneMore d b t = if b .away then t else record { count = t .count + 1; highest = max (t .highest) (registerOf d b .write) }

@@ -18,7 +18,7 @@ fn with_box(b: StorageBox, d: Department, t: Tally) -> Tally
     requires { ⌜ t .count + 1 < 2 ^ 64 ⌝ }
     ensures { λ r. ⌜ r ≡ oneMore d b t ⌝ }
 {
-    if b.stopped {
+    if b.away {
         return t;
     }
     let x = register::register_of(b, d);

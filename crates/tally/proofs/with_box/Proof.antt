@@ -14,7 +14,7 @@ use Rattle.tally.proofs.with_box.Statement.{statement}
 use Rattle.tally.proofs.with_box.Tie as tie
 
 -- a box that has not stopped: the higher of the two ranks is kept
-module _ (d : Department) (b : StorageBox) (t : Tally) (x : Register) (e : b .stopped ≡ false) (q : x ≡ registerOf d b) where
+module _ (d : Department) (b : StorageBox) (t : Tally) (x : Register) (e : b .away ≡ false) (q : x ≡ registerOf d b) where
   counted : (h : ℕ) → max (t .highest) (x .write) ≡ h → record { count = t .count + 1; highest = h } ≡ oneMore d b t
   unfolding oneMore
   counted h f = on-false _ e (ap (λ (k : ℕ). record { count = t .count + 1; highest = k }) (sym f ∙ ap (λ (y : Register). max (t .highest) (y .write)) q))
