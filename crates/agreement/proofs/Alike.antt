@@ -11,17 +11,16 @@ use lib.Seq.{getD-set-same, getD-set-other}
 use Rattle.base.specs.Choice.{if_then_else_}
 use Rattle.register.specs.Register.{box0, registerOf}
 use Rattle.register.specs.declared.Department.{Department}
-use Rattle.register.specs.declared.Department.the-variants.{Sails, Canvas}
 use Rattle.register.specs.declared.Register.{Register}
 use Rattle.register.specs.declared.StorageBox.{StorageBox}
-use Rattle.register.proofs.DepartmentLaws.{box-own}
+use Rattle.register.proofs.DepartmentLaws.{box-own, register-moved}
 use Rattle.requests.specs.Requests.{ofPhase}
 use Rattle.requests.specs.declared.Phase.{Phase}
 use Rattle.requests.specs.declared.Phase.the-variants.{Read, Write}
 use Rattle.requests.specs.declared.Verdict.{Verdict}
 use Rattle.requests.specs.declared.Verdict.the-variants.{Open, Yes, No}
 use Rattle.commands.specs.declared.Command.{Command}
-use Rattle.commands.specs.declared.Command.the-variants.{Begin, Serve, Deliver, Stop, Leave, Malformed}
+use Rattle.commands.specs.declared.Command.the-variants.{Begin, Serve, Deliver, Stop, Leave, Return, Malformed}
 use Rattle.commands.specs.declared.Outcome.the-variants as said
 use Rattle.base.specs.Numbers.{rankOf}
 use Rattle.attempts.specs.Stations.{station0, withState}
@@ -33,9 +32,8 @@ use Rattle.attempts.specs.declared.Station.{Station}
 use Rattle.attempts.specs.declared.Row.{Row}
 use Rattle.attempts.proofs.RowDepartments.{row-own}
 use Rattle.floor.specs.Floors.{boxAt, stationAt, rowAt, ownerAt, departmentAt, shareOf, usedOf, highestOf, InUse, withShare, withBox, withRegister, withStation, withRow}
-use Rattle.floor.specs.Free.{allServed, freeIn, betterIn, freeBelow, nextRow}
-use Rattle.floor.specs.Effects.{stepped, rowTaken, beginner, heardRow, decider, afterAbort, readEndedOn, writeEndedOn, verdictOn, heardOn, receivedOn, deliveredOn, effectOn}
-use Rattle.floor.specs.Effects as effects
+use Rattle.floor.specs.Free.{betterIn, freeBelow, nextRow}
+use Rattle.floor.specs.Effects.{stepped, rowTaken, beginner, heardRow, decider, afterAbort, readEndedOn, writeEndedOn, verdictOn, heardOn, receivedOn, deliveredOn, withAway, effectOn}
 use Rattle.floor.specs.Step.{applyOf}
 use Rattle.floor.specs.Claims.{Sound, CanBegin, CanServe, CanDeliver}
 use Rattle.floor.specs.Departments.{SameFor, Owned}
@@ -45,7 +43,7 @@ use Rattle.floor.specs.declared.Stepped.{Stepped}
 use Rattle.floor.specs.declared.free.Lowest.{Lowest}
 use Rattle.floor.proofs.UseLaws.{share-own, use-of, of-use}
 use Rattle.floor.proofs.FreeLaws.{next-unused, next-full}
-use Rattle.floor.proofs.RefusalLaws.{begin-means, begin-holds, serve-means, serve-holds, deliver-means, deliver-holds, stop-means, stop-holds, leave-means, leave-holds}
+use Rattle.floor.proofs.RefusalLaws.{begin-means, begin-holds, serve-means, serve-holds, deliver-means, deliver-holds, stop-means, stop-holds, leave-means, leave-holds, return-means, return-holds}
 use Rattle.floor.specs.Refusals.{refusalOn}
 use Rattle.floor.proofs.StepLaws.{apply-accepted}
 
@@ -157,14 +155,8 @@ module _ {d : Department} {f g : Floor} (k : Alike d f g) where
   }
 
   -- which row is free, and which one a begin takes
-  served-alike : (w : Row) (c : ℕ) → allServed w (g .boxes) c ≡ allServed w (f .boxes) c
-  unfolding allServed
-  served-alike w zero = refl
-  served-alike w (suc c) = rw (served-alike w c, k .away c) refl
-
-  better-alike : (x : Lowest) (w : Row) (p : State) (a : ℕ) → betterIn x w p (g .boxes) (g .n) a ≡ betterIn x w p (f .boxes) (f .n) a
-  unfolding betterIn freeIn
-  better-alike x w p a = rw (k .boxes, served-alike w (f .n)) refl
+  better-alike : (x : Lowest) (w : Row) (p : State) (a : ℕ) → betterIn x w p (g .n) a ≡ betterIn x w p (f .n) a
+  better-alike x w p a = rw (k .boxes) refl
 
   used-alike : usedOf g d ≡ usedOf f d
   used-alike = ap (λ (x : Share). x .used) (k .same .share)
@@ -182,8 +174,8 @@ module _ {d : Department} {f g : Floor} (k : Alike d f g) where
         let e = row-own d c (omega arith) in
         let p = owner-alike a e (of-use f d a e (omega arith)) in
         better-alike (freeBelow g d c) (rowAt g a) (ownerAt g a .state) a
-        ∙ ap (λ (s : State). betterIn (freeBelow g d c) (rowAt g a) s (f .boxes) (f .n) a) (ap (λ (x : Station). x .state) p)
-        ∙ ap₂ (λ (x : Lowest) (w : Row). betterIn x w (ownerAt f a .state) (f .boxes) (f .n) a) (found-alike u c (omega arith)) (k .same .rows a e)
+        ∙ ap (λ (s : State). betterIn (freeBelow g d c) (rowAt g a) s (f .n) a) (ap (λ (x : Station). x .state) p)
+        ∙ ap₂ (λ (x : Lowest) (w : Row). betterIn x w (ownerAt f a .state) (f .n) a) (found-alike u c (omega arith)) (k .same .rows a e)
 
     next-alike : nextRow g d ≡ nextRow f d
     next-alike = elim (decLt (usedOf f d) 64) [
@@ -192,18 +184,15 @@ module _ {d : Department} {f g : Floor} (k : Alike d f g) where
           next-full g d (omega (arith, used-alike)) ∙ ap (λ (x : Lowest). x .row) (found-alike (omega arith) 64 (omega arith)) ∙ sym (next-full f d (omega arith))
     ]
 
--- the step belongs to the department, or is a box stop
+-- the step belongs to the department, or puts a box away or brings it back
 abbrev pub KeptFor : (f : Floor) (d : Department) (c : Command) → Type 0
 KeptFor f d (Begin s round v) = departmentAt f s ≡ d
 KeptFor f d (Serve p a b) = rowDepartment a ≡ d
 KeptFor f d (Deliver p a b) = rowDepartment a ≡ d
 KeptFor f d (Stop b) = Unit {0}
 KeptFor f d (Leave s) = departmentAt f s ≡ d
+KeptFor f d (Return b) = Unit {0}
 KeptFor f d Malformed = Unit {0}
-
-stop-kept : (d : Department) (x : StorageBox) → registerOf d (effects.stopped x) ≡ registerOf d x
-stop-kept Sails x = refl
-stop-kept Canvas x = refl
 
 -- a step on the one, and on the other
 pub record AlikeStep (d : Department) (x y : Stepped) : Type 0 where
@@ -331,7 +320,11 @@ module _ {d : Department} {f g : Floor} (k : Alike d f g) (o : Owned f) where
       (subst (λ (y : Station). AlikeStep d x (beginsAs s round v (f .n) (rowTaken f s) d y (shareOf d g))) (sym (k .same .stations s e))
       (subst (λ (y : Share). AlikeStep d x (beginsAs s round v (f .n) (rowTaken f s) d (stationAt f s) y)) (sym (k .same .share)) to))))
 
-  -- an accepted step of the department, or a box stop
+  -- a box is put away or brought back
+  move-alike : (b : ℕ) (t : Bool) → Alike d (withBox f b (withAway t (boxAt f b))) (withBox g b (withAway t (boxAt g b)))
+  move-alike b t = alike-box k b _ _ (register-moved d (boxAt g b) t ∙ k .same .registers b ∙ sym (register-moved d (boxAt f b) t)) refl
+
+  -- an accepted step of the department, or one that moves a box
   effect-alike : (c : Command) → KeptFor f d c → refusalOn f c ≡ 0 → (refusalOn g c ≡ 0) × AlikeStep d (effectOn f c) (effectOn g c)
   effect-alike (Begin s round v) e h =
       let c = begin-means f s round h in
@@ -347,13 +340,18 @@ module _ {d : Department} {f g : Floor} (k : Alike d f g) (o : Owned f) where
   effect-alike (Stop b) e h =
       let c = stop-means f b h in (
         stop-holds g b (record { box = omega (arith, c .box, k .boxes); answers = k .away b ∙ c .answers }),
-        record { outcome = refl; floor = alike-box k b _ _ (stop-kept d (boxAt g b) ∙ k .same .registers b ∙ sym (stop-kept d (boxAt f b))) refl },
+        record { outcome = refl; floor = move-alike b true },
       )
   effect-alike (Leave s) e h =
       let c = leave-means f s h in
       let q = k .same .stations s e in (
         leave-holds g s (record { station = omega (arith, c .station, k .stations); here = rw q (c .here) }),
         rw q (record { outcome = refl; floor = alike-station k s _ }),
+      )
+  effect-alike (Return b) e h =
+      let c = return-means f b h in (
+        return-holds g b (record { box = omega (arith, c .box, k .boxes); away = k .away b ∙ c .away }),
+        record { outcome = refl; floor = move-alike b false },
       )
   effect-alike Malformed e h = absurd (omega (arith, h))
 

@@ -19,8 +19,8 @@ use Rattle.floor.specs.Effects.{rowTaken}
 use Rattle.floor.specs.Claims.{Sound}
 use Rattle.floor.specs.declared.Floor.{Floor}
 use Rattle.commands.specs.declared.Command.{Command}
-use Rattle.commands.specs.declared.Command.the-variants.{Begin, Serve, Deliver, Stop, Leave, Malformed}
-use Rattle.base.proofs.Cases.{clash, not-true-false}
+use Rattle.commands.specs.declared.Command.the-variants.{Begin, Serve, Deliver, Stop, Leave, Return, Malformed}
+use Rattle.base.proofs.Cases.{clash}
 use Rattle.commands.proofs.Encodings.{decode-encode}
 use Rattle.solo.specs.Plan.{roundOf, answeringFrom, askedOf, exchange, exchanges, exchangesOf, planOf}
 use Rattle.solo.specs.Claims.{Ready}
@@ -29,10 +29,10 @@ use Rattle.floor.specs.Runs.{floorAt}
 use Rattle.agreement.specs.Words.{Answering, IdleAt, RowLeft, RoundLeft}
 use Rattle.agreement.proofs.Reach.{New}
 use Rattle.agreement.proofs.Positions.{size-at}
-use Rattle.agreement.proofs.Standing.{department-at, stations-at, stopped-before, idle-state, round-outranks}
+use Rattle.agreement.proofs.Standing.{department-at, stations-at, answering-means, idle-state, round-outranks}
 use Rattle.agreement.proofs.FreeRows.{row-left}
 
--- a set of boxes that have not stopped is no larger than the list of them
+-- a set of boxes that are not away is no larger than the list of them
 count-answering : (boxes : List StorageBox) (k b : ℕ) (set : ℕ → Bool) → ((j : ℕ) → j < k → set j ≡ true → getD boxes (b + j) box0 .away ≡ false)
     → count set k ≤ length (answeringFrom k b boxes)
 unfolding count answeringFrom
@@ -72,7 +72,7 @@ module _ (f : Floor) (l : List (List ℕ)) (new : New f) (z : Sound f) (s i : �
     row = rw (department-at f l new s i) (row-left f l new z (departmentAt f s) i row);
     boxes = rw (size-at f l i) (le-trans (boxes .large)
         (count-answering (floorAt f l i .boxes) (f .n) 0 (boxes .set) (λ j h t. subst (λ (b : ℕ). getD (floorAt f l i .boxes) b box0 .away ≡ false) (sym (zero-add j))
-        (not-true-false _ (λ e. boxes .each j h t (stopped-before f l new j i e))))));
+        (answering-means f l new j i (boxes .each j h t)))));
   }
 
 -- Of the records of the plan, a delivery of a write answer is one of the attempt a.
@@ -110,6 +110,7 @@ isBegin (Serve p a b) = false
 isBegin (Deliver p a b) = false
 isBegin (Stop b) = false
 isBegin (Leave s) = false
+isBegin (Return b) = false
 isBegin Malformed = false
 
 no-begin : (c : Command) → isBegin c ≡ false → NoBegin (encodeOf c)

@@ -44,7 +44,7 @@ use Rattle.agreement.specs.Consequences.{Consequences}
 use Rattle.agreement.proofs.Reach.{New, new-floor}
 use Rattle.agreement.proofs.Positions.{means-at}
 use Rattle.agreement.proofs.Safety.{agreement, decided-in, decision-of, decider-at, shown-decided, shown-still}
-use Rattle.agreement.proofs.Standing.{own-department, stations-at}
+use Rattle.agreement.proofs.Standing.{own-department, stations-at, answering-means, answering-holds}
 
 -- a record with no bytes is malformed
 no-bytes : commandOf [] ≡ Malformed
@@ -157,4 +157,6 @@ consequences n m t l = let f = firstFloor n m t in let new = new-floor n m t in 
   station = λ i v e. let d = decision-of f l new i v e in (d .0, station-below f l new z (d .0) v i (d .1), d .1);
   stays = stays f l new;
   over = over f l new z;
+  not-away = answering-means f l new;
+  answers = answering-holds f l new;
 }

@@ -1,12 +1,10 @@
 -- Of an accepted run, the steps of one department and the box stops alone.
-use Prim.Native.Nat.{ℕ, zero, suc, _+_, _≤_, _<_}
+use Prim.Native.Nat.{ℕ, zero, suc, _≤_, _<_}
 use native.Mathlib.Omega.{arith}
 use mathlib.Core.Path.{_≡_, refl, sym, ap, ap₂, subst, _∙_}
-use mathlib.Core.Logic.{inl, inr}
 use mathlib.Core.Bool.{Bool, true, false}
 use mathlib.Core.List.{List, [], _∷_}
 use lib.ListN.{length, getD}
-use Rattle.base.specs.Choice.{if_then_else_}
 use Rattle.base.specs.Quorum.{count, indicator}
 use Rattle.base.proofs.Cases.{clash, by-cases}
 use Rattle.base.proofs.Choices.{on-true, on-false}
@@ -18,17 +16,15 @@ use Rattle.register.proofs.DepartmentLaws.{is-same}
 use Rattle.commands.specs.Commands.{commandOf}
 use Rattle.commands.specs.Outcomes.{isRefused}
 use Rattle.commands.specs.declared.Command.{Command}
-use Rattle.commands.specs.declared.Command.the-variants.{Begin, Serve, Deliver, Stop, Leave, Malformed}
+use Rattle.commands.specs.declared.Command.the-variants.{Begin, Serve, Deliver, Stop, Leave, Return, Malformed}
 use Rattle.commands.specs.declared.Outcome.{Outcome}
 use Rattle.attempts.specs.Rows.{rowDepartment}
 use Rattle.floor.specs.Floors.{boxAt, departmentAt}
-use Rattle.floor.specs.Departments.{belongs, SameFor, Owned}
+use Rattle.floor.specs.Departments.{belongs, Owned}
 use Rattle.floor.specs.Step.{applyOf, stepOf}
-use Rattle.floor.specs.Refusals.{refusalOn}
 use Rattle.floor.specs.Runs.{floorAt, saidAt}
-use Rattle.floor.specs.Claims.{Sound, Lengths, SameSizes, BoxMove, box-kept, box-serves, box-stops}
+use Rattle.floor.specs.Claims.{Sound, Lengths, SameSizes, BoxMove, box-kept, box-serves, box-stops, box-returns}
 use Rattle.floor.specs.declared.Floor.{Floor}
-use Rattle.floor.specs.declared.Stepped.{Stepped}
 use Rattle.floor.proofs.Keeps.{new-sound, step-sizes}
 use Rattle.floor.proofs.Moves.{apply-box}
 use Rattle.floor.proofs.Numbered.{accepted-refusal}
@@ -36,13 +32,23 @@ use Rattle.floor.proofs.DepartmentLaws.{apply-untouched}
 use Rattle.floor.proofs.ListLaws.{sound-at}
 use Rattle.agreement.specs.Words.{commandAt}
 use Rattle.agreement.specs.Demand.{firstFloor}
-use Rattle.agreement.specs.Deletion.{keeps, keptOf, placeOf, Deletion, DeletionTheorem}
+use Rattle.agreement.specs.Deletion.{keeps, keptOf, placeOf, DeletionTheorem}
 use Rattle.agreement.proofs.Reach.{New, new-floor}
 use Rattle.agreement.proofs.Positions.{lengths-at, owned-at}
 use Rattle.agreement.proofs.Standing.{department-at}
 use Rattle.agreement.proofs.Alike.{Alike, KeptFor, AlikeStep, step-alike}
 
--- a step that is kept belongs to the department or stops a box; any other changes nothing of the department
+-- a command that puts a box away or brings it back
+abbrev moves : Command → Bool
+moves (Begin s round v) = false
+moves (Serve p a b) = false
+moves (Deliver p a b) = false
+moves (Stop b) = true
+moves (Leave s) = false
+moves (Return b) = true
+moves Malformed = false
+
+-- a step that is kept belongs to the department or moves a box; any other changes nothing of the department
 module _ (f : Floor) (d : Department) where
   kept-for : (c : Command) → keeps f d c ≡ true → KeptFor f d c
   kept-for (Begin s round v) e = sym (is-same d (departmentAt f s) e)
@@ -50,15 +56,17 @@ module _ (f : Floor) (d : Department) where
   kept-for (Deliver p a b) e = sym (is-same d (rowDepartment a) e)
   kept-for (Stop b) e = tt
   kept-for (Leave s) e = sym (is-same d (departmentAt f s) e)
+  kept-for (Return b) e = tt
   kept-for Malformed e = tt
 
-  not-kept : (c : Command) → keeps f d c ≡ false → (belongs f d c ≡ false) × ((b : ℕ) → ¬ (c ≡ Stop b))
-  not-kept (Begin s round v) e = (e, λ b q. let k : _≡_ {A = ℕ} 0 1 = cc in omega arith)
-  not-kept (Serve p a b) e = (e, λ b q. let k : _≡_ {A = ℕ} 0 1 = cc in omega arith)
-  not-kept (Deliver p a b) e = (e, λ b q. let k : _≡_ {A = ℕ} 0 1 = cc in omega arith)
+  not-kept : (c : Command) → keeps f d c ≡ false → (belongs f d c ≡ false) × (moves c ≡ false)
+  not-kept (Begin s round v) e = (e, refl)
+  not-kept (Serve p a b) e = (e, refl)
+  not-kept (Deliver p a b) e = (e, refl)
   not-kept (Stop b) e = clash refl e
-  not-kept (Leave s) e = (e, λ b q. let k : _≡_ {A = ℕ} 0 1 = cc in omega arith)
-  not-kept Malformed e = (refl, λ b q. let k : _≡_ {A = ℕ} 0 1 = cc in omega arith)
+  not-kept (Leave s) e = (e, refl)
+  not-kept (Return b) e = clash refl e
+  not-kept Malformed e = (refl, refl)
 
   -- a kept step of a list has its place in the list of them
   abbrev Keeps : List (List ℕ) → ℕ → Bool
@@ -103,16 +111,18 @@ keeps-same f g d h (Serve p a b) = refl
 keeps-same f g d h (Deliver p a b) = refl
 keeps-same f g d h (Stop b) = refl
 keeps-same f g d h (Leave s) = ap (isOf d) (h s)
+keeps-same f g d h (Return b) = refl
 keeps-same f g d h Malformed = refl
 
--- only a stop stops a box
-still-answers : {f : Floor} {c : Command} {j : ℕ} {o : Outcome} {x : StorageBox} → BoxMove f c j o x → ((b : ℕ) → ¬ (c ≡ Stop b)) → x .away ≡ boxAt f j .away
+-- no other step moves a box
+still-answers : {f : Floor} {c : Command} {j : ℕ} {o : Outcome} {x : StorageBox} → BoxMove f c j o x → moves c ≡ false → x .away ≡ boxAt f j .away
 still-answers box-kept n = refl
 still-answers (box-serves q u t) n = refl
-still-answers {j = j} (box-stops q t) n = absurd (n j q)
+still-answers (box-stops q t) n = clash (ap moves q) n
+still-answers (box-returns q t) n = clash (ap moves q) n
 
 -- a step of the other department on one of two floors that are alike
-other-alike : {d : Department} {f g : Floor} (c : Command) → Alike d f g → Owned f → Lengths f → Lengths (applyOf f c .floor) → belongs f d c ≡ false → ((b : ℕ) → ¬ (c ≡ Stop b))
+other-alike : {d : Department} {f g : Floor} (c : Command) → Alike d f g → Owned f → Lengths f → Lengths (applyOf f c .floor) → belongs f d c ≡ false → moves c ≡ false
     → SameSizes f (applyOf f c .floor) → Alike d (applyOf f c .floor) g
 other-alike {d} {f} {g} c k o y y' e n z =
     let u = apply-untouched f c d o e in

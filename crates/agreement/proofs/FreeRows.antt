@@ -47,14 +47,15 @@ use Rattle.floor.proofs.Moves.{apply-station, apply-row}
 use Rattle.floor.proofs.RowLaws.{apply-begun-use, used-stays}
 use Rattle.floor.proofs.StandingLaws.{is-waiting, apply-standing}
 use Rattle.floor.proofs.ListLaws.{sound-at}
-use Rattle.agreement.specs.Words.{Before, commandAt, Attempt, attemptDepartment, Named, OverAt, decided, aborted, gone, ServesAt, DeliversAt, IssuesAt, Answering, FreedAt, FreeAt, RowLeft, unused, free}
+use Rattle.agreement.specs.Words.{Before, commandAt, Attempt, attemptDepartment, Named, OverAt, decided, aborted, gone, ServesAt, DeliversAt, IssuesAt, FreedAt, FreeAt, RowLeft, unused, free}
+use Rattle.agreement.specs.Returns.{IssuedBefore}
 use Rattle.agreement.specs.GivenBack.{OwnAnswer}
 use Rattle.agreement.proofs.History.{UsedBy, StationShows, isWritten, served-written, heard-written}
 use Rattle.agreement.proofs.Reach.{New}
 use Rattle.agreement.proofs.Positions.{later, now, size-at, reached-at, lengths-at, owned-at, means-at, row-at}
 use Rattle.agreement.proofs.Deliveries.{owner-reads}
 use Rattle.agreement.proofs.Safety.{one-attempt}
-use Rattle.agreement.proofs.Standing.{used-at, stopped-before, stopped-since, not-aborted}
+use Rattle.agreement.proofs.Standing.{used-at, not-aborted}
 use Rattle.agreement.proofs.Consequences.{isOver, over-since, gone-since}
 
 -- an answer was given; a request was issued
@@ -64,13 +65,13 @@ isServed waiting = false
 isServed onTheWay = true
 isServed received = true
 
-abbrev wasIssued : Standing → Bool
+abbrev pub wasIssued : Standing → Bool
 wasIssued notIssued = false
 wasIssued waiting = true
 wasIssued onTheWay = true
 wasIssued received = true
 
-served-rests : (s : Standing) → isServed s ≡ true → isWaiting s ≡ false
+pub served-rests : (s : Standing) → isServed s ≡ true → isWaiting s ≡ false
 served-rests notIssued e = clash e refl
 served-rests waiting e = clash e refl
 served-rests onTheWay e = refl
@@ -199,17 +200,16 @@ module _ (f : Floor) (l : List (List ℕ)) (new : New f) (z : Sound f) where
   -- Where its requests stand.
   module _ (x : Attempt f l) (p : Phase) (b : ℕ) where
     abbrev Issued : Phase → ℕ → Type 0
-    Issued Read i = Unit {0}
-    Issued Write i = Before (IssuesAt f l x) i
+    Issued q i = IssuedBefore f l x q i
 
     issued-later : (q : Phase) (i : ℕ) → Issued q i → Issued q (suc i)
     issued-later Read i h = tt
     issued-later Write i h = later h
 
-    abbrev standsAt : ℕ → Standing
+    abbrev pub standsAt : ℕ → Standing
     standsAt i = standingOf (requestsOf p (rowAt (at-floor i) (x .number))) b
 
-    data Stands (i : ℕ) : Standing → Type 0 where
+    pub data Stands (i : ℕ) : Standing → Type 0 where
       none : p ≡ Write → Stands i notIssued
       waits : Issued p i → Stands i waiting
       answered : Issued p i → Before (ServesAt f l x p b) i → Stands i onTheWay
@@ -247,7 +247,7 @@ module _ (f : Floor) (l : List (List ℕ)) (new : New f) (z : Sound f) where
       apply-standing (at-floor i) (sound-at f l z i) (lengths-at f l new i) (x .number)
       (in-use-most (at-floor i) (sound-at f l z i) (x .number) (in-use x i n)) p b (omega (arith, size-at f l i)) (commandAt l i)
 
-  stands : (x : Attempt f l) (p : Phase) (b : ℕ) → b < f .n → (i : ℕ) → Named f l x i → Stands x p b i (standsAt x p b i)
+  pub stands : (x : Attempt f l) (p : Phase) (b : ℕ) → b < f .n → (i : ℕ) → Named f l x i → Stands x p b i (standsAt x p b i)
   stands x p b h zero n = absurd (omega (arith, n .earlier))
   stands x p b h (suc i) n = elim (named-step x i n) [
     | inl q ↦ subst (λ (k : ℕ). Stands x p b (suc k) (standsAt x p b (suc k))) q (first-stands x p b h)
@@ -329,7 +329,7 @@ module _ (f : Floor) (l : List (List ℕ)) (new : New f) (z : Sound f) where
       m .row ∙ rw (q, c) refl in
       rw r (row-served-stands p (rowAt (at-floor i) (x .number)) (servedBy (at-floor i) (x .number) b) b (omega (arith, slots, z .box-most)))
 
-  served-since : (x : Attempt f l) (p : Phase) (b : ℕ) → b < f .n → (i : ℕ) → Named f l x i → Before (ServesAt f l x p b) i → isServed (standsAt x p b i) ≡ true
+  pub served-since : (x : Attempt f l) (p : Phase) (b : ℕ) → b < f .n → (i : ℕ) → Named f l x i → Before (ServesAt f l x p b) i → isServed (standsAt x p b i) ≡ true
   served-since x p b h zero n d = absurd (omega (arith, n .earlier))
   served-since x p b h (suc i) n d = elim (named-step x i n) [
     | inl r ↦ absurd (omega (arith, d .holds .named .earlier, d .earlier))
@@ -349,7 +349,7 @@ module _ (f : Floor) (l : List (List ℕ)) (new : New f) (z : Sound f) where
       subst (λ (k : ℕ). wasIssued (standingOf (rowAt (at-floor (suc i)) k .write) b) ≡ true) a
       (ap (λ (w : Row). wasIssued (standingOf (w .write) b)) (m .row) ∙ ap wasIssued s)
 
-  issued-since : (x : Attempt f l) (b : ℕ) → b < f .n → (i : ℕ) → Named f l x i → Before (IssuesAt f l x) i → wasIssued (standsAt x Write b i) ≡ true
+  pub issued-since : (x : Attempt f l) (b : ℕ) → b < f .n → (i : ℕ) → Named f l x i → Before (IssuesAt f l x) i → wasIssued (standsAt x Write b i) ≡ true
   issued-since x b h zero n d = absurd (omega (arith, n .earlier))
   issued-since x b h (suc i) n d = elim (named-step x i n) [
     | inl r ↦ absurd (omega (arith, d .holds .named .earlier, d .earlier))
@@ -367,7 +367,7 @@ module _ (f : Floor) (l : List (List ℕ)) (new : New f) (z : Sound f) where
   rests-served x p b i (answered h s) w k = s
   rests-served x p b i (heard h s d) w k = s
 
-  reads-issued : (x : Attempt f l) (b i : ℕ) {s : Standing} → Stands x Read b i s → wasIssued s ≡ true
+  pub reads-issued : (x : Attempt f l) (b i : ℕ) {s : Standing} → Stands x Read b i s → wasIssued s ≡ true
   reads-issued x b i (none e) = absurd (read-write e)
     where
       read-write : ¬ (Read ≡ Write)
@@ -382,7 +382,20 @@ module _ (f : Floor) (l : List (List ℕ)) (new : New f) (z : Sound f) where
   writes-issued x b i (answered h s) w = clash w refl
   writes-issued x b i (heard h s d) w = clash w refl
 
-  -- a row that is free on the floor is so in the words of the list
+  -- a row that is free in the words of the list is so on the floor
+  pub free-of : (x : Attempt f l) (i : ℕ) → Named f l x i → FreedAt f l x i → isFree (at-floor i) (x .number) ≡ true
+  free-of x i n y =
+      free-holds (at-floor i) (x .number) (record {
+        over = ap (λ (j : ℕ). isActive (stationAt (at-floor i) j .state) (x .number)) (own-station x i n) ∙ over-means x i n (y .over);
+        served = λ b h p. let k : b < f .n = omega (arith, size-at f l i) in rests b k p;
+      })
+    where
+      rests : (b : ℕ) → b < f .n → (p : Phase) → isWaiting (standsAt x p b i) ≡ false
+      rests b h Read = served-rests (standsAt x Read b i) (served-since x Read b h i n (y .reads b h))
+      rests b h Write =
+          not-true-false (isWaiting (standsAt x Write b i)) (λ e. clash e (served-rests (standsAt x Write b i) (served-since x Write b h i n (y .writes (writes-issued x b i (stands x Write b h i n) e) b h))))
+
+  -- and the other way round
   pub freed-of : (x : Attempt f l) (i : ℕ) → Named f l x i → isFree (at-floor i) (x .number) ≡ true → FreedAt f l x i
   freed-of x i n e =
       let y = free-means (at-floor i) (x .number) e in
@@ -391,25 +404,12 @@ module _ (f : Floor) (l : List (List ℕ)) (new : New f) (z : Sound f) where
           | inl a ↦ clash a (ap (λ (j : ℕ). isActive (stationAt (at-floor i) j .state) (x .number)) (sym (own-station x i n)) ∙ y .over)
           | inr v ↦ v
         ];
-        reads = λ b h a. let s = stands x Read b h i n in rests-served x Read b i s (rests y b h a Read) (reads-issued x b i s);
-        writes = λ d b h a. rests-served x Write b i (stands x Write b h i n) (rests y b h a Write) (issued-since x b h i n d);
+        reads = λ b h. let s = stands x Read b h i n in rests-served x Read b i s (rests y b h Read) (reads-issued x b i s);
+        writes = λ d b h. rests-served x Write b i (stands x Write b h i n) (rests y b h Write) (issued-since x b h i n d);
       }
     where
-      rests : Free (at-floor i) (x .number) → (b : ℕ) → b < f .n → Answering f l i b → (p : Phase) → isWaiting (standsAt x p b i) ≡ false
-      rests y b h a = y .served b (omega (arith, size-at f l i)) (not-true-false _ (λ q. a (stopped-before f l new b i q)))
-
-  -- and the other way round
-  pub free-of : (x : Attempt f l) (i : ℕ) → Named f l x i → FreedAt f l x i → isFree (at-floor i) (x .number) ≡ true
-  free-of x i n y =
-      free-holds (at-floor i) (x .number) (record {
-        over = ap (λ (j : ℕ). isActive (stationAt (at-floor i) j .state) (x .number)) (own-station x i n) ∙ over-means x i n (y .over);
-        served = λ b h s p. let k : b < f .n = omega (arith, size-at f l i) in rests b k (λ q. clash (stopped-since f l new b i q) s) p;
-      })
-    where
-      rests : (b : ℕ) → b < f .n → Answering f l i b → (p : Phase) → isWaiting (standsAt x p b i) ≡ false
-      rests b h a Read = served-rests (standsAt x Read b i) (served-since x Read b h i n (y .reads b h a))
-      rests b h a Write =
-          not-true-false (isWaiting (standsAt x Write b i)) (λ e. clash e (served-rests (standsAt x Write b i) (served-since x Write b h i n (y .writes (writes-issued x b i (stands x Write b h i n) e) b h a))))
+      rests : Free (at-floor i) (x .number) → (b : ℕ) → b < f .n → (p : Phase) → isWaiting (standsAt x p b i) ≡ false
+      rests y b h = y .served b (omega (arith, size-at f l i))
 
   pub free-at : (a i : ℕ) → InUse (at-floor i) a → isFree (at-floor i) a ≡ true → FreeAt f l a i
   free-at a i h e =

@@ -1,5 +1,5 @@
 -- In layers, each resting on those before it: the history of a run and what it shows of the floor; each kind of step as a step of the
--- theory; the floors that a list reaches; the run by positions; safety; where stations and boxes stand; rows given back; a station driven alone; demand 3; one department's steps deleted;
+-- theory; the floors that a list reaches; the run by positions; safety; where stations and boxes stand; rows given back; boxes that come back; a station driven alone; demand 3; one department's steps deleted;
 -- the widths of numbers and the box record in C; lists worked through; files.
 pub mod Edits
 pub mod History
@@ -15,6 +15,7 @@ pub mod Standing
 pub mod Consequences
 pub mod FreeRows
 pub mod GivenBack
+pub mod Returns
 pub mod Alone
 pub mod Demand
 pub mod Alike

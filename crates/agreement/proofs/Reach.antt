@@ -18,8 +18,9 @@ use Rattle.protocol.proofs.Instances.{equality}
 use Rattle.requests.specs.declared.Phase.{Phase}
 use Rattle.requests.specs.declared.Phase.the-variants.{Read, Write}
 use Rattle.attempts.specs.Stations.{withState}
-use Rattle.floor.specs.Floors.{boxAt, stationAt, rowAt, registerAt, departmentAt, shareOf, InUse, newStation, emptyFloor, newFloorOf}
+use Rattle.floor.specs.Floors.{boxAt, stationAt, rowAt, departmentAt, shareOf, InUse, withBox, newStation, emptyFloor, newFloorOf}
 use Rattle.floor.specs.Departments.{belongs, SameFor, Owned}
+use Rattle.register.proofs.DepartmentLaws.{register-moved}
 use Rattle.floor.proofs.DepartmentLaws.{case-untouched}
 use Rattle.floor.proofs.FreeLaws.{next-own}
 use Rattle.floor.specs.Claims.{Sound, Lengths, CanLeave}
@@ -31,9 +32,8 @@ use Rattle.commands.specs.declared.Command.{Command}
 use Rattle.commands.specs.declared.Command.the-variants.{Begin, Serve}
 use Rattle.commands.specs.declared.Outcome.{Outcome}
 use Rattle.commands.specs.declared.Outcome.the-variants as said
-use Rattle.floor.specs.Effects.{heardRow, rowTaken, servedBy, afterStop, afterLeave}
-use Rattle.floor.specs.Effects as effects
-use Rattle.floor.proofs.StepCases.{StepCase, turned, began, served, heard, issued, decided, aborted, stopped, left}
+use Rattle.floor.specs.Effects.{heardRow, rowTaken, servedBy, withAway, afterLeave}
+use Rattle.floor.proofs.StepCases.{StepCase, turned, began, served, heard, issued, decided, aborted, stopped, left, returned}
 use Rattle.floor.proofs.StepCases as cases
 use Rattle.floor.proofs.Keeps.{empty-lengths, empty-unused, told-at, new-floor-by}
 use Rattle.base.proofs.Stores.{set-all, getD-same}
@@ -63,6 +63,7 @@ eventOf e (decided z d r q t) = note quiet
 eventOf e (aborted z d r q t) = note quiet
 eventOf e (stopped z d) = note quiet
 eventOf e (left z d) = note quiet
+eventOf e (returned z d) = note quiet
 
 -- A floor that steps led to, with its history of the department d.
 pub record Reached (d : Department) (f : Floor) (l : History) : Type 0 where
@@ -79,17 +80,10 @@ module _ {d : Department} {f : Floor} {l : History} (s : Shows d f l) where
   refused-step : StepTo d f l f (note quiet)
   refused-step = record { step = other-event (λ j. refl); shows = shows-kept s (note quiet) (f .boxes) (f .stations) (λ j. (refl, refl)) refl (s .stations) }
 
-  -- a box that stops keeps its records
-  stop-kept : (b : ℕ) → registerOf d (effects.stopped (boxAt f b)) ≡ registerAt f d b
-  stop-kept b = go d
-    where
-      go : (e : Department) → registerOf e (effects.stopped (boxAt f b)) ≡ registerAt f e b
-      go Sails = refl
-      go Canvas = refl
-
-  stop-step : (b : ℕ) → StepTo d f l (afterStop f b) (note quiet)
-  stop-step b = record {
-    step = other-event (set-all box0 (λ (j : ℕ) (x : StorageBox). seen d x ≡ registersOf d f j) (f .boxes) b _ (λ j. refl) (ap toBox (stop-kept b)));
+  -- a box that is put away or brought back keeps its records
+  move-step : (b : ℕ) (t : Bool) → StepTo d f l (withBox f b (withAway t (boxAt f b))) (note quiet)
+  move-step b t = record {
+    step = other-event (set-all box0 (λ (j : ℕ) (x : StorageBox). seen d x ≡ registersOf d f j) (f .boxes) b _ (λ j. refl) (ap toBox (register-moved d (boxAt f b) t)));
     shows = shows-kept s (note quiet) _ (f .stations) (λ j. (refl, refl)) refl (s .stations);
   }
 
@@ -130,8 +124,9 @@ step-to e w o y (heard {p = p} {a = a} {b = b} z d q) = quiet-in (heard z d q) o
 step-to e w o y (cases.issued {a = a} {b = b} z d r q t) = traced-in (cases.issued z d r q t) o e (rowDepartment a) _ w (λ q. q) (λ k. issue-step a b k o y z d r q t)
 step-to e w o y (decided {a = a} {b = b} z d r q t) = quiet-in (decided z d r q t) o e (rowDepartment a) w (λ q. q) (λ k. decision-step a b k o y z d r)
 step-to e w o y (aborted {p = p} {a = a} {b = b} z d r q t) = quiet-in (aborted z d r q t) o e (rowDepartment a) w (λ q. q) (λ k. abort-step p a b k o y z d)
-step-to e w o y (stopped {b = b} z d) = stop-step w b
+step-to e w o y (stopped {b = b} z d) = move-step w b true
 step-to e w o y (left {s = s} z d) = leave-step w y z s d
+step-to e w o y (returned {b = b} z d) = move-step w b false
 
 pub reached-next : {d : Department} {f : Floor} {l : History} {c : Command} {s : Stepped} → Reached d f l → (x : StepCase f c s) → Lengths (s .floor) → Owned (s .floor) → s .floor .n ≡ f .n
     → Reached d (s .floor) (eventOf d x ∷ l)
@@ -200,6 +195,7 @@ cause e (decided z d r q t) = tt
 cause e (aborted z d r q t) = tt
 cause e (stopped z d) = tt
 cause e (left z d) = tt
+cause e (returned z d) = tt
 
 -- A new floor: nothing has happened on it.
 pub record New (f : Floor) : Type 0 where

@@ -1,10 +1,11 @@
--- What the floor before a position is like, read off the list: rows in use, stopped boxes, and what a solo finish asks of its
+-- What the floor before a position is like, read off the list: rows in use, boxes that are away, and what a solo finish asks of its
 -- station.
 use Prim.Native.Nat.{ℕ, zero, suc, _<_, _≤_, max}
+use native.Mathlib.Nat.{eq-or-lt-of-le}
 use native.Mathlib.Omega.{arith}
 use mathlib.Core.Path.{_≡_, refl, sym, ap, subst, _∙_}
 use mathlib.Core.Logic.{_⊎_, inl, inr}
-use mathlib.Core.Bool.{true, false}
+use mathlib.Core.Bool.{Bool, true, false}
 use mathlib.Core.List.{List, []}
 use native.Mathlib.Decide.{decLt}
 use lib.ListN.{getD}
@@ -22,7 +23,7 @@ use Rattle.floor.proofs.FreeLaws.{next-own}
 use Rattle.attempts.specs.Stations.{isGone, isActive}
 use Rattle.attempts.proofs.UsedLaws.{used-more, used-full}
 use Rattle.commands.specs.declared.Command.the-variants.{Begin}
-use Rattle.floor.specs.Claims.{Sound}
+use Rattle.floor.specs.Claims.{AwayMove, away-kept, away-put, away-brought}
 use Rattle.floor.specs.Step.{stepOf}
 use Rattle.attempts.specs.declared.State.{State}
 use Rattle.attempts.specs.declared.State.the-variants.{Idle, Reading, Writing, Decided, Gone}
@@ -33,14 +34,14 @@ use Rattle.commands.specs.declared.Outcome.the-variants as said
 use Rattle.base.proofs.Cases.{clash, by-cases, up-to}
 use Rattle.floor.proofs.Keeps.{step-sizes}
 use Rattle.floor.proofs.RowLaws.{apply-share}
-use Rattle.floor.proofs.BoxLaws.{stopped-stays, stopped-from}
+use Rattle.floor.proofs.AwayLaws.{away-moves}
 use Rattle.floor.proofs.StationLaws.{department-stays, gone-from, active-from}
-use Rattle.agreement.specs.Words.{Before, commandAt, begunIn, Attempt, attemptRank, attemptDepartment, Named, AbortsAt, IdleAt, attemptsBefore, RoundLeft}
+use Rattle.agreement.specs.Words.{Before, commandAt, begunIn, Attempt, attemptRank, attemptDepartment, Named, AbortsAt, LastAway, Answering, never, returned, IdleAt, attemptsBefore, RoundLeft}
 use Rattle.agreement.specs.GivenBack.{HighestAt}
 use Rattle.floor.specs.Runs.{floorAt, saidAt}
 use Rattle.agreement.proofs.History.{History, UsedBy, StationShows, Shows}
 use Rattle.agreement.proofs.Reach.{New}
-use Rattle.agreement.proofs.Positions.{later, now, reached-at, means-at, row-at}
+use Rattle.agreement.proofs.Positions.{later, now, lengths-at, reached-at, means-at, row-at}
 use Rattle.agreement.proofs.Safety.{shown-decided}
 
 -- a station that reads or writes is in a row of its own
@@ -68,6 +69,7 @@ begun-some d (said.WriteIssued v) e = clash e refl
 begun-some d (said.Decided v) e = clash e refl
 begun-some d (said.Stopped b) e = clash e refl
 begun-some d (said.Gone s) e = clash e refl
+begun-some d (said.Back b) e = clash e refl
 begun-some d (said.Refused k) e = clash e refl
 
 module _ (f : Floor) (l : List (List ℕ)) (new : New f) where
@@ -134,22 +136,74 @@ module _ (f : Floor) (l : List (List ℕ)) (new : New f) where
         | inr o ↦ inr (omega (arith, o .0), omega (arith, u, o .1))
       ])
 
-  -- a box is stopped exactly where an accepted step stopped it
-  pub stopped-before : (b i : ℕ) → boxAt (floorAt f l i) b .away ≡ true → Before (λ k. saidAt f l k ≡ said.Stopped b) i
-  unfolding floorAt stepOf
-  stopped-before b zero e = clash e (ap (λ (x : StorageBox). x .away) (new .boxes b))
-  stopped-before b (suc i) e = elim (stopped-from (floorAt f l i) (commandAt l i) b e) [ inl o ↦ later (stopped-before b i o) | inr o ↦ now i o ]
+  -- Whether a box is away, read off the list.
+  abbrev pub awayAt : (b i : ℕ) → Bool
+  awayAt b i = boxAt (floorAt f l i) b .away
 
-  stopped-still : (b i : ℕ) → boxAt (floorAt f l i) b .away ≡ true → boxAt (floorAt f l (suc i)) b .away ≡ true
+  pub away-step : (b i : ℕ) → AwayMove b (saidAt f l i) (awayAt b i) (awayAt b (suc i))
   unfolding floorAt stepOf
-  stopped-still b i e = ap (λ (x : StorageBox). x .away) (stopped-stays (floorAt f l i) (commandAt l i) b e) ∙ e
+  away-step b i = away-moves (floorAt f l i) (commandAt l i) (lengths-at f l new i) b
 
-  pub stopped-since : (b i : ℕ) → Before (λ k. saidAt f l k ≡ said.Stopped b) i → boxAt (floorAt f l i) b .away ≡ true
-  stopped-since b zero x = absurd (omega (arith, x .earlier))
-  stopped-since b (suc i) x = elim (up-to (x .earlier)) [
-    | inl q ↦ ap (λ (y : StorageBox). y .away) (means-at f l new i (said.Stopped b) (ap (saidAt f l) (sym q) ∙ x .holds) .storage)
-    | inr q ↦ stopped-still b i (stopped-since b i (record { at = x .at; earlier = q; holds = x .holds }))
+  -- one that is not away stays so until a step puts it away
+  not-put : {b : ℕ} {o : Outcome} {x y : Bool} → AwayMove b o x y → ¬ (o ≡ said.Stopped b) → x ≡ false → y ≡ false
+  not-put (away-kept _ _) n e = e
+  not-put away-put n e = absurd (n refl)
+  not-put away-brought n e = refl
+
+  still-here : (b k i : ℕ) → k ≤ i → awayAt b k ≡ false → ((j : ℕ) → k ≤ j → j < i → ¬ (saidAt f l j ≡ said.Stopped b)) → awayAt b i ≡ false
+  still-here b k zero h e n = subst (λ (j : ℕ). awayAt b j ≡ false) (omega arith) e
+  still-here b k (suc i) h e n = elim (eq-or-lt-of-le h) [
+    | inl q ↦ subst (λ (j : ℕ). awayAt b j ≡ false) q e
+    | inr q ↦ not-put (away-step b i) (n i (omega arith) (omega arith)) (still-here b k i (omega arith) e (λ j u v. n j u (omega arith)))
   ]
+
+  pub back-at : (b j : ℕ) → saidAt f l j ≡ said.Back b → (awayAt b j ≡ true) × (awayAt b (suc j) ≡ false)
+  back-at b j e = let m = means-at f l new j (said.Back b) e in (m .may .away, ap (λ (x : StorageBox). x .away) (m .storage))
+
+  pub put-at : (b j : ℕ) → saidAt f l j ≡ said.Stopped b → (awayAt b j ≡ false) × (awayAt b (suc j) ≡ true)
+  put-at b j e = let m = means-at f l new j (said.Stopped b) e in (m .may .answers, ap (λ (x : StorageBox). x .away) (m .storage))
+
+  pub answering-means : (b i : ℕ) → Answering f l i b → awayAt b i ≡ false
+  unfolding floorAt
+  answering-means b i (never n) =
+      still-here b 0 i (omega arith) (ap (λ (x : StorageBox). x .away) (new .boxes b)) (λ j _ h e. n (record { at = j; earlier = h; holds = e }))
+  answering-means b i (returned k j a h u e) = still-here b (suc j) i (omega arith) (back-at b j e .1) (λ t v w. a .last t (omega arith) w)
+
+  -- and of one that is away a last step put it so
+  last-later : {b k i : ℕ} → LastAway f l b k i → ¬ (saidAt f l i ≡ said.Stopped b) → LastAway f l b k (suc i)
+  last-later {b} {k} {i} a n = record {
+    earlier = omega (arith, a .earlier);
+    put = a .put;
+    last = λ j h u e. elim (up-to u) [ inl q ↦ n (ap (saidAt f l) (sym q) ∙ e) | inr q ↦ a .last j h q e ];
+  }
+
+  put-last : (b i : ℕ) {o : Outcome} {x y : Bool} → AwayMove b o x y → saidAt f l i ≡ o → (x ≡ true → (k : ℕ) × LastAway f l b k i) → y ≡ true → (k : ℕ) × LastAway f l b k (suc i)
+  put-last b i (away-kept n _) q h e = let a = h e in (a .0, last-later (a .1) (λ u. n (sym q ∙ u)))
+  put-last b i away-put q h e = (i, record { earlier = omega arith; put = q; last = λ j h u. absurd (omega arith) })
+  put-last b i away-brought q h e = clash e refl
+
+  away-since : (b i : ℕ) → awayAt b i ≡ true → (k : ℕ) × LastAway f l b k i
+  unfolding floorAt
+  away-since b zero e = clash e (ap (λ (x : StorageBox). x .away) (new .boxes b))
+  away-since b (suc i) e = put-last b i (away-step b i) refl (away-since b i) e
+
+  back-or-never : (b i : ℕ) {o : Outcome} {x y : Bool} → AwayMove b o x y → saidAt f l i ≡ o → awayAt b i ≡ x → (x ≡ false → Answering f l i b) → y ≡ false → Answering f l (suc i) b
+  back-or-never b i (away-kept n _) q p h e = still (h e)
+    where
+      still : Answering f l i b → Answering f l (suc i) b
+      still (never m) = never (λ x. elim (up-to (x .earlier)) [
+        | inl u ↦ n (sym q ∙ ap (saidAt f l) (sym u) ∙ x .holds)
+        | inr u ↦ m (record { at = x .at; earlier = u; holds = x .holds })
+      ])
+      still (returned k j a u v c) = returned k j (last-later a (λ w. n (sym q ∙ w))) u (omega arith) c
+  back-or-never b i away-put q p h e = clash refl e
+  back-or-never b i away-brought q p h e =
+      let a = away-since b i p in
+      returned (a .0) i (last-later (a .1) (λ u. let k : _≡_ {A = ℕ} 0 1 = cc in omega arith)) (a .1 .earlier) (omega arith) q
+
+  pub answering-holds : (b i : ℕ) → awayAt b i ≡ false → Answering f l i b
+  answering-holds b zero e = never (λ x. omega (arith, x .earlier))
+  answering-holds b (suc i) e = back-or-never b i (away-step b i) refl refl (answering-holds b i) e
 
   -- a station is gone only where an accepted step said so
   gone-before : (s i : ℕ) → isGone (stationAt (floorAt f l i) s .state) ≡ true → Before (λ k. saidAt f l k ≡ said.Gone s) i

@@ -3,6 +3,7 @@ use Prim.Native.Nat.{ℕ, zero, suc, _<_, _^_}
 use native.Mathlib.Omega.{arith}
 use mathlib.Core.Path.{sym, subst}
 use mathlib.Core.Logic.{inl, inr}
+use mathlib.Core.Bool.{true, false}
 use mathlib.Core.List.{List, [], _∷_}
 use lib.ListN.{getD, replicate}
 use Rattle.base.specs.Bytes.{Bytes}
@@ -12,7 +13,7 @@ use Rattle.base.proofs.Stores.{set-all, getD-same}
 use Rattle.register.specs.Register.{box0, registerOf}
 use Rattle.register.specs.declared.Department.{Department}
 use Rattle.register.specs.declared.Department.the-variants.{Sails, Canvas}
-use Rattle.register.proofs.DepartmentLaws.{same-or-not, box-own, box-other}
+use Rattle.register.proofs.DepartmentLaws.{register-moved, same-or-not, box-own, box-other}
 use Rattle.register.specs.declared.Register.{Register}
 use Rattle.register.specs.declared.ReadDone.{ReadDone}
 use Rattle.register.specs.declared.StorageBox.{StorageBox}
@@ -38,7 +39,7 @@ use Rattle.floor.specs.Effects.{heardRow, servedBy}
 use Rattle.floor.proofs.Keeps.{new-floor-by}
 use Rattle.floor.specs.Step.{stepOf}
 use Rattle.floor.specs.Runs.{floorAt}
-use Rattle.floor.specs.Claims.{RowMove, row-kept, row-begins, row-served, row-heard, row-issues, BoxMove, box-kept, box-serves, box-stops}
+use Rattle.floor.specs.Claims.{RowMove, row-kept, row-begins, row-served, row-heard, row-issues, BoxMove, box-kept, box-serves, box-stops, box-returns}
 use Rattle.floor.specs.declared.Floor.{Floor}
 use Rattle.floor.proofs.Moves.{apply-box, apply-row}
 
@@ -106,8 +107,8 @@ module _ {f : Floor} (h : FloorFits f) {c : Command} (k : Fielded c) (j : ℕ) w
     | inl q ↦ rw (q, box-own (rowDepartment a) (boxAt f j) _ (boxAt f j .away)) (served-register p (h .rows a) (h .boxes (rowDepartment a) j))
     | inr n ↦ rw (box-other (rowDepartment a) d (boxAt f j) (registerServed p (rowAt f a) (servedBy f a j)) (boxAt f j .away) n) (h .boxes d j)
   ]
-  box-fits Sails (box-stops e s) = h .boxes Sails j
-  box-fits Canvas (box-stops e s) = h .boxes Canvas j
+  box-fits d (box-stops e s) = rw (register-moved d (boxAt f j) true) (h .boxes d j)
+  box-fits d (box-returns e s) = rw (register-moved d (boxAt f j) false) (h .boxes d j)
 
 step-fits : (f : Floor) (r : List ℕ) → Bytes r → FloorFits f → FloorFits (stepOf f r .floor)
 unfolding stepOf

@@ -1,14 +1,14 @@
--- Document 01's examples I and J, and a read that is outranked, in the words of demand 3, so that the claim is not about nothing.
+-- Document 01's examples I and J, and lists of the wishes of document 02, in the words of demand 3, so that the claim is not about nothing.
 use Prim.Native.Nat.{ℕ, zero, suc, _<_}
 use native.Mathlib.Omega.{arith}
 use mathlib.Core.Path.{_≡_, refl, sym, ap, _∙_}
 use mathlib.Core.Logic.{_⊎_, inl, inr}
-use mathlib.Core.Bool.{Bool, true, false}
+use mathlib.Core.Bool.{Bool, true, false, not}
 use mathlib.Core.List.{[], _∷_}
 use lib.ListN.{length}
 use lib.Dec.{eqb, leb}
 use lib.Count.{ones, onesIn}
-use borrow.Author.Tests.{leb-true, eqb-true}
+use borrow.Author.Tests.{leb-true, eqb-true, not-true}
 use Rattle.base.specs.Choice.{if_then_else_}
 use Rattle.base.specs.Numbers.{sizesRight}
 use Rattle.base.specs.Mask.{bit, setBit, countBelow}
@@ -21,35 +21,41 @@ use Rattle.requests.specs.declared.Phase.the-variants.{Read, Write}
 use Rattle.base.specs.Departments.{departmentsWrong, notDepartments, notDepartment}
 use Rattle.register.specs.declared.Department.the-variants.{Sails, Canvas}
 use Rattle.floor.specs.Sound.{stationsBelow, shareSound, soundOf}
-use Rattle.floor.specs.Floors.{departmentAt, usedOf, InUse, departmentFrom, stationsTold, newFloorOf}
+use Rattle.floor.specs.Floors.{boxAt, departmentAt, usedOf, InUse, departmentFrom, stationsTold, newFloorOf}
 use Rattle.attempts.specs.declared.Decision.the-variants.{None, Revision}
 use Rattle.floor.specs.declared.Floor.{Floor}
 use Rattle.attempts.proofs.RowDepartments.{sails-row}
 use Rattle.floor.proofs.UseLaws.{of-use}
+use Rattle.floor.proofs.AwayLaws.{isMove}
 use Rattle.commands.specs.Commands.{allZero, spared, commandOf}
 use Rattle.floor.specs.Free.{stillServed, allServed, freeIn, isFree, nextRow}
 use Rattle.attempts.specs.Rows.{rowDepartment, newRow, waitsAt, usedAfter, better, bestOf, revisionFrom, revisionOf, issued}
-use Rattle.floor.specs.Refusals.{beginRefusal, serveRefusal, deliverRefusal, stopRefusal}
+use Rattle.floor.specs.Refusals.{beginRefusal, serveRefusal, deliverRefusal, stopRefusal, returnRefusal}
 use Rattle.floor.specs.Effects.{deliveredOn}
 use Rattle.floor.specs.Step.{playOf, applyOf, stepOf}
 use Rattle.commands.specs.declared.Command.the-variants.{Begin, Serve, Deliver}
 use Rattle.commands.specs.declared.Outcome.{Outcome}
 use Rattle.commands.specs.declared.Outcome.the-variants as said
 use Rattle.solo.specs.Solo.{soloOf}
-use Rattle.agreement.specs.Words.{commandAt, Attempt, ServedAt, DecidesAt, AbortsAt, OutrankedAt, shownAt, IdleAt, attemptsBefore, unused}
+use Rattle.agreement.specs.Words.{commandAt, Attempt, ServedAt, DecidesAt, AbortsAt, OutrankedAt, shownAt, never, IdleAt, attemptsBefore, unused}
 use Rattle.floor.specs.Runs.{floorAt, floorLeft, saidAt}
 use Rattle.agreement.specs.Demand.{DrivenAlone}
-use Rattle.agreement.specs.Worked.{single, one, exampleI, stops, outrankedRead, both, two, withdrawn, pair, three, five, heldAt, heldFor, Worked}
+use Rattle.agreement.specs.Returns.{AwayFrom}
+use Rattle.agreement.specs.Worked.{single, one, exampleI, stops, outrankedRead, both, two, withdrawn, pair, cameBack, oneBack, three, five, heldAt, heldFor, Worked}
 use Rattle.agreement.proofs.GivenBack.{given-back}
 use Rattle.agreement.proofs.Demand.{demand3}
 use Rattle.agreement.proofs.Consequences.{consequences}
 
--- boxes 2, 3 and 4, which have not stopped
-abbrev unstopped : ℕ → Bool
-unstopped b = leb 2 b
+-- boxes 2, 3 and 4, which answer behind `stops`
+abbrev answering : ℕ → Bool
+answering b = leb 2 b
 
--- What was said in example I that a solo finish behind it asks about, as a number: which attempt was begun, from 1; 100 where a box was
--- stopped or a station left
+-- those that answer behind `oneBack`
+abbrev answeringBack : ℕ → Bool
+answeringBack b = not (boxAt (floorAt five oneBack 4) b .away)
+
+-- What was said in example I that a solo finish behind it asks about, as a number: which attempt was begun, from 1; 100 where a box
+-- was put away or brought back or a station left
 abbrev noted : Outcome → ℕ
 noted (said.Begun a) = suc a
 noted (said.Served a) = 0
@@ -59,6 +65,7 @@ noted (said.WriteIssued v) = 0
 noted (said.Decided v) = 0
 noted (said.Stopped b) = 100
 noted (said.Gone s) = 100
+noted (said.Back b) = 100
 noted (said.Refused k) = 0
 
 -- attempt 0 at the step 0 and attempt 1 at the step 5
@@ -90,7 +97,7 @@ record Computed : Type 0 where
   stop0 : saidAt five stops 0 ≡ said.Stopped 0
   stop1 : saidAt five stops 1 ≡ said.Stopped 1
   sizes : (five .n ≡ 5) × (five .m ≡ 1)
-  enough : count unstopped 5 ≡ 3
+  enough : count answering 5 ≡ 3
   sails : (departmentAt five 0 ≡ Sails) × (departmentAt three 0 ≡ Sails)
   first-decided : saidAt two both 8 ≡ said.Decided 7
   second-decided : saidAt two both 9 ≡ said.Decided 9
@@ -100,6 +107,16 @@ record Computed : Type 0 where
   withdrawn-again : (saidAt pair withdrawn 7 ≡ said.WriteIssued 0) × (saidAt pair withdrawn 9 ≡ said.Decided 0)
   withdrawn-over : saidAt pair withdrawn 10 ≡ said.Refused 10
   begun-none : attemptsBefore five stops Sails 2 ≡ 0
+  put : saidAt three cameBack 3 ≡ said.Stopped 1
+  waited : saidAt three cameBack 4 ≡ said.Refused 13
+  still-away : boxAt (floorAt three cameBack 5) 1 .away ≡ true
+  brought : saidAt three cameBack 5 ≡ said.Back 1
+  served-then : (saidAt three cameBack 6 ≡ said.Served 0) × (boxAt (floorAt three cameBack 6) 1 .away ≡ false)
+  issued-then : saidAt three cameBack 7 ≡ said.WriteIssued 7
+  refused-then : saidAt three cameBack 8 ≡ said.Refused 23
+  moved : (isMove (saidAt five oneBack 0) ≡ true) × (isMove (saidAt five oneBack 1) ≡ true) × (isMove (saidAt five oneBack 2) ≡ true) × (isMove (saidAt five oneBack 3) ≡ true)
+  enough-back : count answeringBack 5 ≡ 3
+  none-begun : attemptsBefore five oneBack Sails 4 ≡ 0
   -- behind example I: boxes 1 and 2 hold the revision of attempt 1, and box 0 that of attempt 0
   first : (commandAt exampleI 0 ≡ Begin 0 1 7) × (saidAt three exampleI 0 ≡ said.Begun 0)
   abort : commandAt exampleI 17 ≡ Deliver Write 0 1
@@ -108,7 +125,7 @@ record Computed : Type 0 where
   all : (three .n ≡ 3) × (three .m ≡ 2) × (count (λ b. true) 3 ≡ 3)
 
 computed : Computed
-unfolding floorAt count asExpected expected if_then_else_ sizesRight departmentsWrong notDepartments notDepartment departmentFrom stationsTold newFloorOf stepOf applyOf playOf soundOf shareSound stationsBelow rowDepartment commandOf allZero spared beginRefusal serveRefusal deliverRefusal stopRefusal standing bit setBit countBelow ones onesIn atQuorum newRow nextRow usedAfter freeIn allServed stillServed waitsAt waitingBelow outranks rmwRead rmwWrite takes deliveredOn better bestOf revisionFrom revisionOf issued stillYes allYes readVerdict writeVerdict
+unfolding floorAt count asExpected expected if_then_else_ sizesRight departmentsWrong notDepartments notDepartment departmentFrom stationsTold newFloorOf stepOf applyOf playOf soundOf shareSound stationsBelow rowDepartment commandOf allZero spared beginRefusal serveRefusal deliverRefusal stopRefusal returnRefusal standing bit setBit countBelow ones onesIn atQuorum newRow nextRow usedAfter freeIn allServed stillServed waitsAt waitingBelow outranks rmwRead rmwWrite takes deliveredOn better bestOf revisionFrom revisionOf issued stillYes allYes readVerdict writeVerdict
 computed = record {
   decided = refl;
   aborted = refl;
@@ -137,6 +154,16 @@ computed = record {
   withdrawn-again = (refl, refl);
   withdrawn-over = refl;
   begun-none = refl;
+  put = refl;
+  waited = refl;
+  still-away = refl;
+  brought = refl;
+  served-then = (refl, refl);
+  issued-then = refl;
+  refused-then = refl;
+  moved = (refl, refl, refl, refl);
+  enough-back = refl;
+  none-begun = refl;
   first = (refl, refl);
   abort = refl;
   noted-all = refl;
@@ -181,14 +208,14 @@ idle = record {
 no-attempt : (x : Attempt five stops) → ¬ (x .at < 2)
 no-attempt x h = let e = only-stops (x .at) _ h (x .begun) .2 in let z : _≡_ {A = ℕ} 0 1 = cc in omega arith
 
--- with 2 of 5 boxes stopped, whatever revision station 0 offers
+-- with 2 of 5 boxes away, whatever revision station 0 offers
 alone : (v : ℕ) → v < 4294967296 → DrivenAlone five stops 0 v (soloOf (floorLeft five stops) 0 v)
 alone v q =
     demand3 5 1 (0 ∷ []) stops .solo 0 v (omega (arith, computed .sizes .1)) idle
     (record {
-      set = unstopped;
+      set = answering;
       large = rw (computed .sizes .0) (omega (arith, computed .enough));
-      each = λ b h t x. (let o = only-stops (x .at) _ (x .earlier) (x .holds) in let e : b ≡ o .0 = cc (o .2) in omega (arith, leb-true 2 b t, o .1));
+      each = λ b h t. never (λ x. let o = only-stops (x .at) _ (x .earlier) (x .holds) in let e : b ≡ o .0 = cc (o .2) in omega (arith, leb-true 2 b t, o .1));
     })
     (unused (rw (computed .sails .0) (omega (arith, computed .begun-none))))
     (record { round = 1; least = omega arith; most = omega arith; outranks = λ x h _. absurd (no-attempt x h) })
@@ -196,6 +223,42 @@ alone v q =
 
 thirteen : (v : ℕ) → v < 4294967296 → soloOf (floorLeft five stops) 0 v .steps ≡ 13
 thirteen v q = omega (arith, alone v q .count, computed .sizes .0)
+
+-- Boxes that come back.
+away-from : AwayFrom three cameBack 1 3 5
+away-from = record {
+  put = computed .put;
+  later = omega arith;
+  back = computed .brought;
+  between = λ k h u e. let q : k ≡ 4 = omega arith in let r : said.Refused 13 ≡ said.Back 1 = sym (computed .waited) ∙ ap (saidAt three cameBack) (sym q) ∙ e in let z : _≡_ {A = ℕ} 0 1 = cc in omega arith;
+}
+
+-- every step of `oneBack` moves a box, and nothing else was said
+only-moves : (k : ℕ) → k < 4 → (o : Outcome) → saidAt five oneBack k ≡ o → isMove o ≡ true
+only-moves zero h o e = ap isMove (sym e) ∙ computed .moved .0
+only-moves (suc zero) h o e = ap isMove (sym e) ∙ computed .moved .1
+only-moves (suc (suc zero)) h o e = ap isMove (sym e) ∙ computed .moved .2
+only-moves (suc (suc (suc zero))) h o e = ap isMove (sym e) ∙ computed .moved .3
+only-moves (suc (suc (suc (suc k)))) h o e = absurd (omega arith)
+
+idle-back : IdleAt five oneBack 0 4
+idle-back = record {
+  here = λ x. clash (only-moves (x .at) (x .earlier) _ (x .holds)) refl;
+  undecided = λ v x. clash (only-moves (x .at) (x .earlier) _ (x .holds .accepted)) refl;
+  aborted = λ x h _. clash (only-moves (x .at) h _ (x .begun)) refl;
+}
+
+alone-back : (v : ℕ) → v < 4294967296 → DrivenAlone five oneBack 0 v (soloOf (floorLeft five oneBack) 0 v)
+alone-back v q =
+    demand3 5 1 (0 ∷ []) oneBack .solo 0 v (omega (arith, computed .sizes .1)) idle-back
+    (record {
+      set = answeringBack;
+      large = rw (computed .sizes .0) (omega (arith, computed .enough-back));
+      each = λ b h t. consequences 5 1 (0 ∷ []) oneBack .answers b 4 (not-true _ t);
+    })
+    (unused (rw (computed .sails .0) (omega (arith, computed .none-begun))))
+    (record { round = 1; least = omega arith; most = omega arith; outranks = λ x h _. clash (only-moves (x .at) h _ (x .begun)) refl })
+    q
 
 -- Behind example I, where it is hard: station 0 is idle after its abort, and the boxes hold revisions, two of them another's.
 noted-upto : (n k : ℕ) → asExpected n ≡ true → k < n → noted (saidAt three exampleI k) ≡ expected k
@@ -268,7 +331,7 @@ idle-behind = record {
 alone-behind : (v : ℕ) → v < 4294967296 → DrivenAlone three exampleI 0 v (soloOf (floorLeft three exampleI) 0 v)
 alone-behind v q =
     demand3 3 2 (0 ∷ 0 ∷ []) exampleI .solo 0 v (omega (arith, computed .all .1)) idle-behind
-    (record { set = λ b. true; large = rw (computed .all .0) (omega (arith, computed .all .2)); each = λ b h t x. nobody-left (x .at) (x .earlier) (said.Stopped b) refl (x .holds) })
+    (record { set = λ b. true; large = rw (computed .all .0) (omega (arith, computed .all .2)); each = λ b h t. never (λ x. nobody-left (x .at) (x .earlier) (said.Stopped b) refl (x .holds)) })
     (unused (rw (computed .sails .1) (omega (arith, computed .attempts))))
     (record {
       round = 2;
@@ -297,6 +360,12 @@ worked = record {
   withdrawn-decided = computed .withdrawn-decided;
   withdrawn-again = computed .withdrawn-again;
   withdrawn-over = computed .withdrawn-over;
+  away = (computed .waited, λ x. clash (computed .still-away) (consequences 3 2 (0 ∷ 0 ∷ []) cameBack .not-away 1 5 x));
+  back = (computed .brought, computed .served-then .0, consequences 3 2 (0 ∷ 0 ∷ []) cameBack .answers 1 6 (computed .served-then .1));
+  went-on = computed .issued-then;
+  not-away = computed .refused-then;
+  away-from = away-from;
+  alone-back = alone-back;
   alone = alone;
   thirteen = thirteen;
   idle-behind = idle-behind;

@@ -9,8 +9,9 @@ use Rattle.commands.specs.Outcomes.{isRefused}
 use Rattle.commands.specs.declared.Command.the-variants.{Begin}
 use Rattle.commands.specs.declared.Outcome.the-variants as said
 use Rattle.attempts.specs.declared.Decision.the-variants.{Revision}
-use Rattle.agreement.specs.Words.{commandAt, DecidesAt, shownAt}
-use Rattle.floor.specs.Runs.{saidAt}
+use Rattle.agreement.specs.Words.{commandAt, DecidesAt, shownAt, Answering}
+use Rattle.floor.specs.Floors.{boxAt}
+use Rattle.floor.specs.Runs.{floorAt, saidAt}
 use Rattle.floor.specs.declared.Floor.{Floor}
 
 pub record Consequences (f : Floor) (l : List (List ℕ)) : Type 0 where
@@ -23,3 +24,6 @@ pub record Consequences (f : Floor) (l : List (List ℕ)) : Type 0 where
   -- "each station keeps its own, and begins nothing after deciding", whatever it decided: such a begin is refused with 9 or 10
   pub over : (s v k i round u : ℕ) → DecidesAt f l s v k → k < i → commandAt l i ≡ Begin s round u
       → (saidAt f l i ≡ said.Refused 9) ⊎ (saidAt f l i ≡ said.Refused 10)
+  -- a box answers in the words of demand 3 exactly where the floor shows that it is not away
+  pub not-away : (b i : ℕ) → Answering f l i b → boxAt (floorAt f l i) b .away ≡ false
+  pub answers : (b i : ℕ) → boxAt (floorAt f l i) b .away ≡ false → Answering f l i b

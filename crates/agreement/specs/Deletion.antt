@@ -11,7 +11,7 @@ use Rattle.register.specs.declared.Department.{Department}
 use Rattle.commands.specs.Commands.{commandOf}
 use Rattle.commands.specs.Outcomes.{isRefused}
 use Rattle.commands.specs.declared.Command.{Command}
-use Rattle.commands.specs.declared.Command.the-variants.{Begin, Serve, Deliver, Stop, Leave, Malformed}
+use Rattle.commands.specs.declared.Command.the-variants.{Begin, Serve, Deliver, Stop, Leave, Return, Malformed}
 use Rattle.floor.specs.Floors.{boxAt}
 use Rattle.floor.specs.Departments.{belongs, SameFor}
 use Rattle.floor.specs.Runs.{floorAt, saidAt}
@@ -19,13 +19,15 @@ use Rattle.floor.specs.declared.Floor.{Floor}
 use Rattle.agreement.specs.Words.{commandAt}
 use Rattle.agreement.specs.Demand.{firstFloor}
 
--- The steps that are kept: those of the department d, and the box stops, which are shared.
+-- The steps that are kept: those of the department d, and those that put boxes away and bring them back. "Only box stops, n and m are
+-- shared"; wish 8: kinds 8 and 9 are "shared as kind 6".
 abbrev pub keeps : (f : Floor) (d : Department) (c : Command) → Bool
 keeps f d (Begin s round v) = belongs f d (Begin s round v)
 keeps f d (Serve p a b) = belongs f d (Serve p a b)
 keeps f d (Deliver p a b) = belongs f d (Deliver p a b)
 keeps f d (Stop b) = true
 keeps f d (Leave s) = belongs f d (Leave s)
+keeps f d (Return b) = true
 keeps f d Malformed = false
 
 -- the list without the others
@@ -44,7 +46,7 @@ pub record Deletion (f : Floor) (d : Department) (l : List (List ℕ)) : Type 0 
   pub asked : (i : ℕ) → i < length l → keeps f d (commandAt l i) ≡ true → getD (keptOf f d l) (placeOf f d l i) [] ≡ getD l i []
   pub said : (i : ℕ) → i < length l → keeps f d (commandAt l i) ≡ true → saidAt f (keptOf f d l) (placeOf f d l i) ≡ saidAt f l i
   -- and behind it, as behind every other, that department's records in the boxes, its stations and its rows are what they were, and the
-  -- same boxes have stopped
+  -- same boxes are away
   pub same : (i : ℕ) → i ≤ length l → SameFor d (floorAt f l i) (floorAt f (keptOf f d l) (placeOf f d l i))
   pub away : (i : ℕ) → i ≤ length l → (b : ℕ) → boxAt (floorAt f (keptOf f d l) (placeOf f d l i)) b .away ≡ boxAt (floorAt f l i) b .away
 

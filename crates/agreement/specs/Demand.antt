@@ -1,5 +1,5 @@
--- Demand 3: one claim on every list of steps, whoever orders them, whichever boxes stop and whichever stations go. The proof is
--- `demand3` in proofs/Demand.
+-- Demand 3: one claim on every list of steps, whoever orders them, whichever boxes go away and come back and whichever stations go. The
+-- proof is `demand3` in proofs/Demand.
 use Prim.Native.Nat.{ℕ, suc, _+_, _*_, _<_}
 use mathlib.Core.Path.{_≡_}
 use mathlib.Core.Bool.{false}

@@ -41,7 +41,7 @@ pub record GivenBack (f : Floor) (l : List (List ℕ)) : Type 0 where
       ⊎ ((64 < attemptsBefore f l d i) × (usedOf (floorAt f l i) d ≡ 64))
   -- "the highest rank begun alone, which the floor keeps", in each department
   pub highest : (d : Department) (i : ℕ) → HighestAt f l d (highestOf (floorAt f l i) d) i
-  -- an attempt whose row is taken was over, and its requests were served at every box that answered
+  -- an attempt whose row is taken was over, and its requests were served at every box
   pub freed : (y x : Attempt f l) → Drops f l y x → FreedAt f l x (y .at)
   -- from then on no request of it is served and no answer of it is delivered; no box serves its rank
   pub not-served : (y x : Attempt f l) → Drops f l y x → (phase : Phase) (b k : ℕ) → y .at ≤ k → ¬ ServesAt f l x phase b k

@@ -2,6 +2,7 @@ pub mod Words
 pub mod Demand
 pub mod Consequences
 pub mod GivenBack
+pub mod Returns
 pub mod Deletion
 pub mod Files
 pub mod Worked

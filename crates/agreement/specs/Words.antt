@@ -46,6 +46,7 @@ begunIn d (said.WriteIssued v) = false
 begunIn d (said.Decided v) = false
 begunIn d (said.Stopped b) = false
 begunIn d (said.Gone s) = false
+begunIn d (said.Back b) = false
 begunIn d (said.Refused k) = false
 
 -- The steps of the list l from the floor f.
@@ -135,9 +136,17 @@ module _ (f : Floor) (l : List (List ℕ)) where
     pub decided : (v : ℕ) → shownAt s i ≡ Revision v → Before (DecidesAt s v) i
     pub none : shownAt s i ≡ None → (v : ℕ) → ¬ Before (DecidesAt s v) i
 
-  -- What a solo finish is given, before the step at i. "A box answers if no accepted step stopped it."
-  abbrev pub Answering : (i b : ℕ) → Type 0
-  Answering i b = ¬ Before (λ k. saidAt f l k ≡ said.Stopped b) i
+  -- What a solo finish is given, before the step at i. The accepted step at k put the box b away, and it is the last before i that did.
+  pub record LastAway (b k i : ℕ) : Type 0 where
+    pub earlier : k < i
+    pub put : saidAt f l k ≡ said.Stopped b
+    pub last : (j : ℕ) → k < j → j < i → ¬ (saidAt f l j ≡ said.Stopped b)
+
+  -- "A box answers if no accepted step stopped it." Wish 8 of document 02: "kind 9 brings it back", and ""Answering" means not away". A box
+  -- answers if no accepted step put it away, or one brought it back after the last that did.
+  pub data Answering (i b : ℕ) : Type 0 where
+    never : ¬ Before (λ k. saidAt f l k ≡ said.Stopped b) i → Answering i b
+    returned : (k j : ℕ) → LastAway b k i → k < j → j < i → saidAt f l j ≡ said.Back b → Answering i b
 
   -- "A station is idle if it is not gone, never decided, and all its attempts, if any, aborted."
   pub record IdleAt (s i : ℕ) : Type 0 where
@@ -183,12 +192,12 @@ module _ (f : Floor) (l : List (List ℕ)) where
     pub asked : commandAt l i ≡ Deliver Read (x .number) box
     pub accepted : saidAt f l i ≡ said.WriteIssued revision
 
-  -- "Its row is free once it is over and its issued requests are served at every box not stopped": its read, and its write if one was
-  -- issued, at every box that no accepted step stopped
+  -- "Its row is free once it is over and its issued requests are served": its read, and its write if one was issued. Wish 8: "Rows are now
+  -- free only when served at every box, away or not."
   pub record FreedAt (x : Attempt) (i : ℕ) : Type 0 where
     pub over : OverAt x i
-    pub reads : (b : ℕ) → b < f .n → Answering i b → Before (ServesAt x Read b) i
-    pub writes : Before (IssuesAt x) i → (b : ℕ) → b < f .n → Answering i b → Before (ServesAt x Write b) i
+    pub reads : (b : ℕ) → b < f .n → Before (ServesAt x Read b) i
+    pub writes : Before (IssuesAt x) i → (b : ℕ) → b < f .n → Before (ServesAt x Write b) i
 
   -- the number a means an attempt whose row is free
   pub record FreeAt (a i : ℕ) : Type 0 where

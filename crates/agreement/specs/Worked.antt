@@ -1,12 +1,12 @@
--- Document 01's examples I and J, a read that is outranked, a row that is free, two departments, and a withdrawal, in the words of demand 3,
--- so that the claim is not about nothing. The proof is `worked` in proofs/Worked.
+-- Document 01's examples I and J, a read that is outranked, a row that is free, two departments, a withdrawal, and boxes that come back, in
+-- the words of demand 3, so that the claim is not about nothing. The proof is `worked` in proofs/Worked.
 use Prim.Native.Nat.{ℕ, _<_}
 use mathlib.Core.Path.{_≡_}
 use mathlib.Core.List.{List, [], _∷_}
 use lib.ListN.{length}
 use Rattle.requests.specs.declared.Phase.the-variants.{Read, Write}
 use Rattle.commands.specs.Commands.{encodeOf}
-use Rattle.commands.specs.declared.Command.the-variants.{Begin, Serve, Deliver, Stop}
+use Rattle.commands.specs.declared.Command.the-variants.{Begin, Serve, Deliver, Stop, Return}
 use Rattle.commands.specs.declared.Outcome.the-variants as said
 use Rattle.attempts.specs.declared.Decision.the-variants.{None, Revision}
 use Rattle.register.specs.declared.Department.{Department}
@@ -15,8 +15,9 @@ use Rattle.floor.specs.Floors.{registerAt}
 use Rattle.floor.specs.Runs.{floorLeft, saidAt}
 use Rattle.floor.specs.declared.Floor.{Floor}
 use Rattle.solo.specs.Solo.{soloOf}
-use Rattle.agreement.specs.Words.{commandAt, ServedAt, DecidesAt, OutrankedAt, shownAt, IdleAt, FreeAt}
+use Rattle.agreement.specs.Words.{commandAt, ServedAt, DecidesAt, OutrankedAt, shownAt, Answering, IdleAt, FreeAt}
 use Rattle.agreement.specs.Demand.{firstFloor, DrivenAlone}
+use Rattle.agreement.specs.Returns.{AwayFrom}
 
 -- "I: n = 3. Attempt 0 (rank 16, 7) has read at boxes 0 and 1. Attempt 1 (rank 17, 9) reads and writes at 1 and 2 and decides 9.
 -- Attempt 0's write is taken at 0, not at 1: it aborts. Its write at 2, served after that, is not taken." Behind it, two records
@@ -27,7 +28,7 @@ exampleI =
     ∷ encodeOf (Begin 1 1 9) ∷ encodeOf (Serve Read 1 1) ∷ encodeOf (Deliver Read 1 1) ∷ encodeOf (Serve Read 1 2) ∷ encodeOf (Deliver Read 1 2)
     ∷ encodeOf (Serve Write 1 1) ∷ encodeOf (Deliver Write 1 1) ∷ encodeOf (Serve Write 1 2) ∷ encodeOf (Deliver Write 1 2)
     ∷ encodeOf (Serve Write 0 0) ∷ encodeOf (Deliver Write 0 0) ∷ encodeOf (Serve Write 0 1) ∷ encodeOf (Deliver Write 0 1) ∷ encodeOf (Serve Write 0 2)
-    ∷ (9 ∷ 255 ∷ []) ∷ encodeOf (Begin 1 2 5) ∷ []
+    ∷ (10 ∷ 255 ∷ []) ∷ encodeOf (Begin 1 2 5) ∷ []
 
 -- "J: solo on a new floor of 5: 13 steps; with 2 stopped, 13"
 abbrev pub stops : List (List ℕ)
@@ -61,6 +62,16 @@ withdrawn =
 
 abbrev pub pair : Floor
 pair = firstFloor 1 2 (0 ∷ 0 ∷ [])
+
+-- Wish 8: box 1 goes away with a read waiting there, which is served when it is back. Behind it, a box that is not away is brought back.
+abbrev pub cameBack : List (List ℕ)
+cameBack =
+    encodeOf (Begin 0 1 7) ∷ encodeOf (Serve Read 0 0) ∷ encodeOf (Deliver Read 0 0) ∷ encodeOf (Stop 1) ∷ encodeOf (Serve Read 0 1) ∷ encodeOf (Return 1)
+    ∷ encodeOf (Serve Read 0 1) ∷ encodeOf (Deliver Read 0 1) ∷ encodeOf (Return 1) ∷ []
+
+-- of five boxes three go, one by kind 6, and that one is back
+abbrev pub oneBack : List (List ℕ)
+oneBack = encodeOf (Stop 0) ∷ (6 ∷ 1 ∷ 0 ∷ 0 ∷ 0 ∷ 0 ∷ 0 ∷ 0 ∷ []) ∷ encodeOf (Stop 2) ∷ encodeOf (Return 1) ∷ []
 
 -- what the box holds for a department behind both
 abbrev pub heldFor : (d : Department) → ℕ
@@ -99,6 +110,14 @@ pub record Worked : Type 0 where
   pub withdrawn-decided : (saidAt pair withdrawn 4 ≡ said.Decided 0) × (shownAt pair withdrawn 0 5 ≡ Revision 0)
   pub withdrawn-again : (saidAt pair withdrawn 7 ≡ said.WriteIssued 0) × (saidAt pair withdrawn 9 ≡ said.Decided 0)
   pub withdrawn-over : saidAt pair withdrawn 10 ≡ said.Refused 10
+  -- wish 8: while it is away box 1 does not serve the read, and does not answer; back it does both
+  pub away : (saidAt three cameBack 4 ≡ said.Refused 13) × (¬ Answering three cameBack 5 1)
+  pub back : (saidAt three cameBack 5 ≡ said.Back 1) × (saidAt three cameBack 6 ≡ said.Served 0) × Answering three cameBack 6 1
+  pub went-on : saidAt three cameBack 7 ≡ said.WriteIssued 7
+  pub not-away : saidAt three cameBack 8 ≡ said.Refused 23
+  pub away-from : AwayFrom three cameBack 1 3 5
+  -- with 3 of 5 boxes away and one of them back, whatever revision station 0 offers
+  pub alone-back : (v : ℕ) → v < 4294967296 → DrivenAlone five oneBack 0 v (soloOf (floorLeft five oneBack) 0 v)
   -- J: with 2 of 5 boxes stopped, whatever revision station 0 offers
   pub alone : (v : ℕ) → v < 4294967296 → DrivenAlone five stops 0 v (soloOf (floorLeft five stops) 0 v)
   pub thirteen : (v : ℕ) → v < 4294967296 → soloOf (floorLeft five stops) 0 v .steps ≡ 13

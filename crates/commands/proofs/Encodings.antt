@@ -2,7 +2,7 @@
 use Prim.Native.Nat.{ℕ}
 use native.Mathlib.Omega.{arith}
 use mathlib.Core.Path.{_≡_, refl}
-use mathlib.Core.List.{List}
+use mathlib.Core.List.{List, _∷_}
 use lib.ListN.{length}
 use Rattle.base.specs.Choice.{if_then_else_}
 use Rattle.base.specs.Bytes.{Bytes}
@@ -12,7 +12,7 @@ use Rattle.commands.specs.Commands.{allZero, spared, commandOf, encodeOf
 use Rattle.requests.specs.declared.Phase.the-variants.{Read, Write}
 use Rattle.commands.specs.Claims.{Fielded}
 use Rattle.commands.specs.declared.Command.{Command}
-use Rattle.commands.specs.declared.Command.the-variants.{Begin, Serve, Deliver, Stop, Leave, Malformed}
+use Rattle.commands.specs.declared.Command.the-variants.{Begin, Serve, Deliver, Stop, Leave, Return, Malformed}
 
 pub decode-encode : (c : Command) → commandOf (encodeOf c) ≡ c
 unfolding commandOf spared allZero if_then_else_
@@ -23,7 +23,13 @@ decode-encode (Deliver Read a b) = refl
 decode-encode (Deliver Write a b) = refl
 decode-encode (Stop b) = refl
 decode-encode (Leave s) = refl
+decode-encode (Return b) = refl
 decode-encode Malformed = refl
+
+-- kind 6 is read as kind 8
+pub six-as-eight : (rest : List ℕ) → commandOf (6 ∷ rest) ≡ commandOf (8 ∷ rest)
+unfolding commandOf if_then_else_
+six-as-eight rest = refl
 
 -- a record has 8 bytes
 pub encode-length : (c : Command) → length (encodeOf c) ≡ 8
@@ -32,6 +38,7 @@ encode-length (Serve f a b) = refl
 encode-length (Deliver f a b) = refl
 encode-length (Stop b) = refl
 encode-length (Leave s) = refl
+encode-length (Return b) = refl
 encode-length Malformed = refl
 
 -- the record of a command with such fields is made of bytes
@@ -43,6 +50,7 @@ encode-bytes (Deliver Read a b) h = omega (arith, h .0, h .1)
 encode-bytes (Deliver Write a b) h = omega (arith, h .0, h .1)
 encode-bytes (Stop b) h = omega arith
 encode-bytes (Leave s) h = omega arith
+encode-bytes (Return b) h = omega arith
 encode-bytes Malformed h = omega arith
 
 -- and a record of bytes has such fields
@@ -60,4 +68,6 @@ decode-fielded r h =
     (λ _. by-test Fielded _ _ _ (λ _. spared-fielded _ _ (at 1, at 2))
     (λ _. by-test Fielded _ _ _ (λ _. spared-fielded _ _ (at 1, at 2))
     (λ _. by-test Fielded _ _ _ (λ _. spared-fielded _ _ (at 1))
-    (λ _. by-test Fielded _ _ _ (λ _. spared-fielded _ _ (at 1)) (λ _. tt)))))))
+    (λ _. by-test Fielded _ _ _ (λ _. spared-fielded _ _ (at 1))
+    (λ _. by-test Fielded _ _ _ (λ _. spared-fielded _ _ (at 1))
+    (λ _. by-test Fielded _ _ _ (λ _. spared-fielded _ _ (at 1)) (λ _. tt)))))))))

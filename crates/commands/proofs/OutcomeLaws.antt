@@ -4,7 +4,7 @@ use mathlib.Core.Bool.{false}
 use Rattle.base.proofs.Cases.{clash}
 use Rattle.commands.specs.Outcomes.{numberOf, isRefused}
 use Rattle.commands.specs.declared.Outcome.{Outcome}
-use Rattle.commands.specs.declared.Outcome.the-variants.{Begun, Served, Received, Aborted, WriteIssued, Decided, Stopped, Gone, Refused}
+use Rattle.commands.specs.declared.Outcome.the-variants.{Begun, Served, Received, Aborted, WriteIssued, Decided, Stopped, Gone, Back, Refused}
 
 pub accepted-number : (o : Outcome) → isRefused o ≡ false → numberOf o ≡ 0
 accepted-number (Begun a) e = refl
@@ -15,4 +15,5 @@ accepted-number (WriteIssued v) e = refl
 accepted-number (Decided v) e = refl
 accepted-number (Stopped b) e = refl
 accepted-number (Gone s) e = refl
+accepted-number (Back b) e = refl
 accepted-number (Refused k) e = clash refl e

@@ -9,7 +9,7 @@ use Rattle.base.specs.Bytes.{word16, word32, bytes16, bytes32}
 use Rattle.requests.specs.Requests.{ofPhase}
 use Rattle.requests.specs.declared.Phase.the-variants.{Read, Write}
 use Rattle.commands.specs.declared.Command.{Command}
-use Rattle.commands.specs.declared.Command.the-variants.{Begin, Serve, Deliver, Stop, Leave, Malformed}
+use Rattle.commands.specs.declared.Command.the-variants.{Begin, Serve, Deliver, Stop, Leave, Return, Malformed}
 
 -- all bytes are 0
 unfoldable pub allZero : (bytes : List ℕ) → Bool
@@ -22,8 +22,9 @@ spared spare c = if allZero spare then c else Malformed
 
 -- "Record: kind (1 to 7 as above). Begin: station, round (2 bytes), revision (4). Kinds 2 to 5: attempt, box, five zero bytes.
 -- Stop: box, six zero bytes. Gone: station, six zero bytes." The kinds: "1 Begin", "2, 3 Serve a read (2) or a write (3)",
--- "4, 5 Deliver a read answer (4) or a write answer (5)", "6 Stop", "7 Gone". `Malformed` is refusal 7: "The kind is not 1 to 7, or a
--- byte that should be zero is not."
+-- "4, 5 Deliver a read answer (4) or a write answer (5)", "6 Stop", "7 Gone". Wish 8 of document 02: "Kind 8 puts a box away and kind 9
+-- brings it back, both laid out .. as kind 6", and "Kind 6 is read as kind 8". `Malformed` is refusal 7: the kind is not 1 to 9 (wish 8:
+-- "Refusals 7 and 13 read accordingly"), "or a byte that should be zero is not."
 unfoldable pub commandOf : (r : List ℕ) → Command
 commandOf r =
     if eqb (getD r 0 0) 1 then
@@ -34,13 +35,16 @@ commandOf r =
     else if eqb (getD r 0 0) 5 then spared (drop 3 r) (Deliver Write (getD r 1 0) (getD r 2 0))
     else if eqb (getD r 0 0) 6 then spared (drop 2 r) (Stop (getD r 1 0))
     else if eqb (getD r 0 0) 7 then spared (drop 2 r) (Leave (getD r 1 0))
+    else if eqb (getD r 0 0) 8 then spared (drop 2 r) (Stop (getD r 1 0))
+    else if eqb (getD r 0 0) 9 then spared (drop 2 r) (Return (getD r 1 0))
     else Malformed
 
--- the record of a command, in the same layout; that of `Malformed` is of kind 0
+-- the record of a command, in the same layout, a stop's of kind 8, which the writer of files passes; that of `Malformed` is of kind 0
 abbrev pub encodeOf : (c : Command) → List ℕ
 encodeOf (Begin s round v) = 1 ∷ s ∷ (bytes16 round ++ bytes32 v)
 encodeOf (Serve p a b) = ofPhase p 2 3 ∷ a ∷ b ∷ 0 ∷ 0 ∷ 0 ∷ 0 ∷ 0 ∷ []
 encodeOf (Deliver p a b) = ofPhase p 4 5 ∷ a ∷ b ∷ 0 ∷ 0 ∷ 0 ∷ 0 ∷ 0 ∷ []
-encodeOf (Stop b) = 6 ∷ b ∷ 0 ∷ 0 ∷ 0 ∷ 0 ∷ 0 ∷ 0 ∷ []
+encodeOf (Stop b) = 8 ∷ b ∷ 0 ∷ 0 ∷ 0 ∷ 0 ∷ 0 ∷ 0 ∷ []
 encodeOf (Leave s) = 7 ∷ s ∷ 0 ∷ 0 ∷ 0 ∷ 0 ∷ 0 ∷ 0 ∷ []
+encodeOf (Return b) = 9 ∷ b ∷ 0 ∷ 0 ∷ 0 ∷ 0 ∷ 0 ∷ 0 ∷ []
 encodeOf Malformed = replicate 8 0

@@ -2,7 +2,7 @@
 use Prim.Native.Nat.{ℕ}
 use mathlib.Core.Bool.{Bool, true, false}
 use Rattle.commands.specs.declared.Outcome.{Outcome}
-use Rattle.commands.specs.declared.Outcome.the-variants.{Begun, Served, Received, Aborted, WriteIssued, Decided, Stopped, Gone, Refused}
+use Rattle.commands.specs.declared.Outcome.the-variants.{Begun, Served, Received, Aborted, WriteIssued, Decided, Stopped, Gone, Back, Refused}
 
 -- Document 01's number for each case of an outcome: "A refusal gives its number", 0 where the step was accepted.
 abbrev pub numberOf : (o : Outcome) → ℕ
@@ -14,10 +14,12 @@ numberOf (WriteIssued v) = 0
 numberOf (Decided v) = 0
 numberOf (Stopped b) = 0
 numberOf (Gone s) = 0
+numberOf (Back b) = 0
 numberOf (Refused k) = k
 
 -- Document 01's value for each case: "begun, served, received or aborted with the attempt; write issued or decided with the
--- revision; stopped with the box; gone with the station". A refusal has none.
+-- revision; stopped with the box; gone with the station". Wish 8 of document 02: "Kind 8 says stopped and kind 9 back, with the box." A
+-- refusal has none.
 abbrev pub valueOf : (o : Outcome) → ℕ
 valueOf (Begun a) = a
 valueOf (Served a) = a
@@ -27,6 +29,7 @@ valueOf (WriteIssued v) = v
 valueOf (Decided v) = v
 valueOf (Stopped b) = b
 valueOf (Gone s) = s
+valueOf (Back b) = b
 valueOf (Refused k) = 0
 
 abbrev pub isRefused : (o : Outcome) → Bool
@@ -38,6 +41,7 @@ isRefused (WriteIssued v) = false
 isRefused (Decided v) = false
 isRefused (Stopped b) = false
 isRefused (Gone s) = false
+isRefused (Back b) = false
 isRefused (Refused k) = true
 
 -- an attempt began
@@ -50,6 +54,7 @@ isBegun (WriteIssued v) = false
 isBegun (Decided v) = false
 isBegun (Stopped b) = false
 isBegun (Gone s) = false
+isBegun (Back b) = false
 isBegun (Refused k) = false
 
 -- an attempt ended: its station decided, or it aborted
@@ -62,4 +67,5 @@ isEnd (WriteIssued v) = false
 isEnd (Decided v) = true
 isEnd (Stopped b) = false
 isEnd (Gone s) = false
+isEnd (Back b) = false
 isEnd (Refused k) = false

@@ -13,7 +13,7 @@ pub use outcomes::number;
 pub use outcomes::refused;
 pub use outcomes::value;
 
-// A step as its record's fields say it: station, round and revision; phase, attempt and box; box; station. `Malformed` is any
+// A step as its record's fields say it: station, round and revision; phase, attempt and box; box; station; box. `Malformed` is any
 // record that refusal 7 turns back.
 pub enum Command {
     Begin(u8, u16, u32),
@@ -21,6 +21,7 @@ pub enum Command {
     Deliver(Phase, u8, u8),
     Stop(u8),
     Leave(u8),
+    Return(u8),
     Malformed,
 }
 
@@ -34,6 +35,7 @@ pub enum Outcome {
     Decided(u32),
     Stopped(u8),
     Gone(u8),
+    Back(u8),
     Refused(u8),
 }
 
@@ -79,8 +81,10 @@ pub fn decode(r: [u8; 8]) -> Command
         5 => spare(r, 3, Command::Deliver(Phase::Write, r[1], r[2])),
         6 => spare(r, 2, Command::Stop(r[1])),
         7 => spare(r, 2, Command::Leave(r[1])),
+        8 => spare(r, 2, Command::Stop(r[1])),
+        9 => spare(r, 2, Command::Return(r[1])),
         0 => Command::Malformed,
-        8..=255 => Command::Malformed,
+        10..=255 => Command::Malformed,
     }
 }
 
@@ -94,7 +98,7 @@ fn by_phase(p: Phase, read: u8, write: u8) -> u8
     }
 }
 
-// The record of a command; that of `Malformed` is zeros.
+// The record of a command, a stop's of kind 8; that of `Malformed` is zeros.
 pub fn encode(c: Command) -> [u8; 8]
     ensures { λ r. ⌜ r ≡ encodeOf c ⌝ }
 {
@@ -106,8 +110,9 @@ pub fn encode(c: Command) -> [u8; 8]
         }
         Command::Serve(p, a, b) => [by_phase(p, 2, 3), a, b, 0, 0, 0, 0, 0],
         Command::Deliver(p, a, b) => [by_phase(p, 4, 5), a, b, 0, 0, 0, 0, 0],
-        Command::Stop(b) => [6, b, 0, 0, 0, 0, 0, 0],
+        Command::Stop(b) => [8, b, 0, 0, 0, 0, 0, 0],
         Command::Leave(s) => [7, s, 0, 0, 0, 0, 0, 0],
+        Command::Return(b) => [9, b, 0, 0, 0, 0, 0, 0],
         Command::Malformed => [0; 8],
     }
 }

@@ -16,6 +16,7 @@ pub fn number(o: Outcome) -> u8
         Outcome::Decided(_) => 0,
         Outcome::Stopped(_) => 0,
         Outcome::Gone(_) => 0,
+        Outcome::Back(_) => 0,
         Outcome::Refused(k) => k,
     }
 }
@@ -33,6 +34,7 @@ pub fn value(o: Outcome) -> u32
         Outcome::Decided(v) => v,
         Outcome::Stopped(b) => b as u32,
         Outcome::Gone(s) => s as u32,
+        Outcome::Back(b) => b as u32,
         Outcome::Refused(_) => 0,
     }
 }
@@ -49,6 +51,7 @@ pub fn refused(o: Outcome) -> bool
         Outcome::Decided(_) => false,
         Outcome::Stopped(_) => false,
         Outcome::Gone(_) => false,
+        Outcome::Back(_) => false,
         Outcome::Refused(_) => true,
     }
 }
@@ -66,6 +69,7 @@ pub fn ends(o: Outcome) -> bool
         Outcome::Decided(_) => true,
         Outcome::Stopped(_) => false,
         Outcome::Gone(_) => false,
+        Outcome::Back(_) => false,
         Outcome::Refused(_) => false,
     }
 }

@@ -5,7 +5,7 @@ use Rattle.drill_file.proofs.TestLaws.{accepted-passed, passed-accepted
 use Rattle.drill_file.proofs.FileLaws.{header-number, header-values, accepted-values}
 use Rattle.drill_file.proofs.LayoutLaws.{header-layout, written-accepted, written-version, written-label, written-departments, written-records, one-listed, none-in-one, each-in-two}
 use Rattle.drill_file.proofs.WriterLaws.{unrefused, refused-none}
-use Rattle.drill_file.proofs.WrittenLaws.{left-filled, left-untouched, reads-back, writes-again, writes-short, parts-apart}
+use Rattle.drill_file.proofs.WrittenLaws.{left-filled, left-untouched, reads-back, writes-again, writes-short, writes-stops, parts-apart}
 
 pub file-claims : FileClaims
 file-claims = record {
@@ -32,7 +32,8 @@ writer-claims = record {
   filled = left-filled;
   untouched = left-untouched;
   back = reads-back;
-  again = writes-again;
-  short = writes-short;
+  again = λ s b bytes e. writes-again s bytes e b;
+  short = λ s b bytes e. writes-short s bytes e b;
+  stops = λ s room bytes e. writes-stops s bytes e room;
   apart = parts-apart;
 }

@@ -1,17 +1,18 @@
 -- What the writer's functions go by: the parts that pass its tests, how long their file is, and the file as four runs of bytes.
-use Prim.Native.Nat.{ℕ, suc, _+_, _-_, _*_, _/_, _%_, _≤_, _<_}
+use Prim.Native.Nat.{ℕ, zero, suc, _+_, _-_, _*_, _/_, _%_, _≤_, _<_}
 use native.Mathlib.Omega.{arith}
+use native.Mathlib.Nat.{sub-zero}
 use mathlib.Core.Path.{_≡_, refl, sym, ap, _∙_}
-use mathlib.Core.Bool.{Bool, true, false, true≢false, not}
+use mathlib.Core.Bool.{Bool, true, false, not}
 use mathlib.Core.List.{List, [], _∷_, _++_, flatten, append-assoc}
-use borrow.Author.Tests.{lt-ltb, le-ltb, le-leb, ltb-true, ltb-false, eqb-true, eq-eqb, ne-eqb, not-false}
+use borrow.Author.Tests.{lt-ltb, le-ltb, le-leb, ltb-true, ltb-false, eqb-false, eq-eqb, ne-eqb, not-false}
 use lib.Dec.{eqb, ltb}
 use lib.ListN.{length, getD, drop, set, length-append}
 use lib.Seq.{take-all, sets, sets-eq, length-sets}
 use Rattle.base.specs.Bytes.{bytes16, bytesPut}
 use Rattle.base.specs.Choice.{if_then_else_}
 use Rattle.base.specs.Claims.{Sizes}
-use Rattle.base.specs.Records.{recordsIn}
+use Rattle.base.specs.Records.{recordAt, recordsFrom, recordsIn}
 use Rattle.base.proofs.Cases.{by-cases}
 use Rattle.base.proofs.DepartmentLaws.{departments-mean, departments-hold}
 use Rattle.base.proofs.Choices.{on-true, on-false, by-test, chosen, both-false, passed}
@@ -19,10 +20,10 @@ use Rattle.base.proofs.PutLaws.{three-put}
 use Rattle.base.proofs.RecordLaws.{record-length, records-length, record-nth, records-joined}
 use Rattle.base.proofs.SizeLaws.{sizes-mean, sizes-hold}
 use Rattle.base.proofs.WritingLaws.{no-size, buffer-kept, size-is, buffer-is}
-use Rattle.drill_file.specs.Claims.{Printable, Department, PartsRight, Writable}
-use Rattle.drill_file.specs.DrillFile.{departmentsDue, anyByte, wrongRun}
+use Rattle.drill_file.specs.Claims.{Printable, Department, PartsRight, WithoutKind6, Writable}
+use Rattle.drill_file.specs.DrillFile.{departmentsDue, wrongRun}
 use Rattle.drill_file.specs.Layout.{bodyOf, fileOf}
-use Rattle.drill_file.specs.Writer.{DrillParts, fileFrom, wrongText, wrongGiven, writeRefusal, writtenSize, writtenBuffer}
+use Rattle.drill_file.specs.Writer.{DrillParts, fileFrom, wrongText, wrongGiven, hasKind, writeRefusal, writtenSize, writtenBuffer}
 use Rattle.drill_file.proofs.TestLaws.{version-means, version-holds, letters-mean, letters-hold, length-means, length-holds, run-means, run-holds}
 use Rattle.drill_file.proofs.FileLaws.{due-most}
 
@@ -66,6 +67,58 @@ pub short-said : (room : ℕ) (p : DrillParts) → wrongRun (length (p .run)) �
 short-said room p w = ap (ltb room) (file-size p (run-means (length (p .run)) w .0))
 
 -- what it means that none of the writer's refusals applies, both ways
+module _ (kind : ℕ) where
+  abbrev Kind : List (List ℕ) → ℕ → Type 0
+  Kind rs i = getD (getD rs i []) 0 0 ≡ kind
+
+  kinds-mean : (rs : List (List ℕ)) → hasKind kind rs ≡ false → (i : ℕ) → i < length rs → ¬ Kind rs i
+  unfolding hasKind
+  kinds-mean [] e i h = absurd (omega arith)
+  kinds-mean (r ∷ rs) e zero h = eqb-false _ _ (both-false _ _ e .0)
+  kinds-mean (r ∷ rs) e (suc i) h = kinds-mean rs (both-false _ _ e .1) i (omega arith)
+
+  kinds-hold : (rs : List (List ℕ)) → ((i : ℕ) → i < length rs → ¬ Kind rs i) → hasKind kind rs ≡ false
+  unfolding hasKind
+  kinds-hold [] n = refl
+  kinds-hold (r ∷ rs) n = sym (on-false _ (ne-eqb _ _ (n 0 (omega arith))) (sym (kinds-hold rs (λ i h. n (suc i) (omega arith)))))
+
+  kind-holds : (rs : List (List ℕ)) (i : ℕ) → i < length rs → Kind rs i → hasKind kind rs ≡ true
+  unfolding hasKind
+  kind-holds [] i h e = absurd (omega arith)
+  kind-holds (r ∷ rs) zero h e = sym (on-true _ (eq-eqb _ _ e) refl)
+  kind-holds (r ∷ rs) (suc i) h e = by-test (λ (x : Bool). x ≡ true) (eqb (getD r 0 0) kind) _ _ (λ _. refl) (λ _. kind-holds rs i (omega arith) e)
+
+  -- the records of a list of bytes from the first on are all of them
+  pub kind-starts : (s : List ℕ) → hasKind kind (recordsFrom (length s / 8 - 0) s (8 * 0)) ≡ hasKind kind (recordsIn s)
+  kind-starts s = rw sub-zero
+
+  -- the records of a list of bytes from the k-th on: the k-th is of the kind, or those behind it tell, or there is none left
+  module _ (s : List ℕ) (k : ℕ) where
+    abbrev count : ℕ
+    count = length s / 8
+
+    abbrev Rest : Type 0
+    Rest = hasKind kind (recordsFrom (count - k) s (8 * k)) ≡ hasKind kind (recordsIn s)
+
+    one-more : k < count → recordsFrom (count - k) s (8 * k) ≡ recordAt s (8 * k) ∷ recordsFrom (count - (k + 1)) s (8 * (k + 1))
+    unfolding recordsFrom
+    one-more h =
+        let e : count - k ≡ suc (count - (k + 1)) = omega arith in
+        let q : 8 * (k + 1) ≡ 8 * k + 8 = omega arith in
+        rw (e, q)
+
+    pub kind-found : Rest → k < count → eqb (getD s (8 * k) 0) kind ≡ true → true ≡ hasKind kind (recordsIn s)
+    unfolding hasKind recordAt
+    kind-found rest h e = on-true _ e refl ∙ ap (hasKind kind) (sym (one-more h)) ∙ rest
+
+    pub kind-passed : Rest → k < count → eqb (getD s (8 * k) 0) kind ≡ false → hasKind kind (recordsFrom (count - (k + 1)) s (8 * (k + 1))) ≡ hasKind kind (recordsIn s)
+    unfolding hasKind recordAt
+    kind-passed rest h e = on-false _ e refl ∙ ap (hasKind kind) (sym (one-more h)) ∙ rest
+
+    pub kind-none : Rest → count ≤ k → false ≡ hasKind kind (recordsIn s)
+    unfolding hasKind recordsFrom
+    kind-none rest h = let e : count - k ≡ 0 = omega arith in sym (ap (λ (j : ℕ). hasKind kind (recordsFrom j s (8 * k))) e) ∙ rest
+
 text-means : (label : List ℕ) → wrongText label ≡ false → ((1 ≤ length label) × (length label ≤ 32)) × ((i : ℕ) → i < length label → Printable (getD label i 0))
 unfolding wrongText
 text-means label e = let a = both-false _ _ e in (length-means (length label) (a .0), letters-mean label (a .1))
@@ -91,7 +144,8 @@ module _ (room : ℕ) (p : DrillParts) where
       let c = passed _ _ _ (b .1) (omega arith) in
       let d = passed _ _ _ (c .1) (omega arith) in
       let f = passed _ _ _ (d .1) (omega arith) in
-      let g = passed _ _ _ (f .1) (omega arith) in
+      let k = passed _ _ _ (f .1) (omega arith) in
+      let g = passed _ _ _ (k .1) (omega arith) in
       let z = sizes-mean (p .boxes) (p .stations) (not-false _ (b .0)) in
       let t = text-means (p .label) (c .0) in
       let y = given-means (p .version) (p .stations) (p .departments) (d .0) in
@@ -110,22 +164,30 @@ module _ (room : ℕ) (p : DrillParts) where
           eights = λ i h. ap length (record-nth (length (p .run) / 8) (p .run) 0 i (rw many at h)) ∙ record-length (p .run) (0 + 8 * i);
         };
         whole = r .0;
+        kinds = kinds-mean 6 (recordsIn (p .run)) (k .0);
         fits = ltb-false room (length (fileFrom p)) (g .0);
       }
 
-  -- parts that a file may have are refused for want of room alone
-  pub refused-short : PartsRight p → length (p .run) % 8 ≡ 0
-      → writeRefusal room p ≡ (if ltb room (length (fileFrom p)) then 18 else 0)
+  -- parts that a file may have are refused for a record of kind 6, and for want of room alone
+  refused-late : PartsRight p → length (p .run) % 8 ≡ 0
+      → writeRefusal room p ≡ (if hasKind 6 (recordsIn (p .run)) then 7 else if ltb room (length (fileFrom p)) then 18 else 0)
   unfolding writeRefusal
-  refused-short f whole =
+  refused-late f whole =
       let few = rw (records-length (length (p .run) / 8) (p .run) 0) at (f .few) in
       let sizes : Sizes (p .boxes) (p .stations) = record { box-least = f .boxes .0; box-most = f .boxes .1; station-least = f .stations .0; station-most = f .stations .1 } in
       sym (on-false _ (version-holds (p .version) (f .versioned)) (on-false _ (ap not (sizes-hold (p .boxes) (p .stations) sizes))
       (on-false _ (text-holds (p .label) (f .labelled) (f .printable)) (on-false _ (given-holds (p .version) (p .stations) (p .departments) (f .due) (f .each))
       (on-false _ (run-holds (length (p .run)) (whole, few)) refl)))))
 
+  pub refused-kind : PartsRight p → length (p .run) % 8 ≡ 0 → (i : ℕ) → i < length (recordsIn (p .run)) → Kind 6 (recordsIn (p .run)) i → writeRefusal room p ≡ 7
+  refused-kind f whole i h e = refused-late f whole ∙ sym (on-true _ (kind-holds 6 (recordsIn (p .run)) i h e) refl)
+
+  pub refused-short : PartsRight p → length (p .run) % 8 ≡ 0 → WithoutKind6 (recordsIn (p .run))
+      → writeRefusal room p ≡ (if ltb room (length (fileFrom p)) then 18 else 0)
+  refused-short f whole n = refused-late f whole ∙ sym (on-false _ (kinds-hold 6 (recordsIn (p .run)) n) refl)
+
   pub refused-none : Writable room p → writeRefusal room p ≡ 0
-  refused-none w = refused-short (w .parts) (w .whole) ∙ sym (on-false _ (le-ltb room (length (fileFrom p)) (w .fits)) refl)
+  refused-none w = refused-short (w .parts) (w .whole) (w .kinds) ∙ sym (on-false _ (le-ltb room (length (fileFrom p)) (w .fits)) refl)
 
   -- such parts are short
   pub short-label : Writable room p → length (p .label) ≤ 32

@@ -1,21 +1,21 @@
 -- What the writer leaves in a buffer: read back it is the parts that were given, and an accepted file is written again as it was.
 use Prim.Native.Nat.{ℕ, _+_, _/_, _%_, _≤_, _<_}
 use mathlib.Core.Path.{_≡_, refl, sym, ap, _∙_}
-use mathlib.Core.List.{List, flatten}
+use mathlib.Core.List.{List, [], flatten}
 use borrow.Author.Tests.{lt-ltb}
-use lib.ListN.{length, drop}
+use lib.ListN.{length, getD, drop}
 use Rattle.base.specs.Bytes.{Bytes}
 use Rattle.base.specs.Records.{recordsIn}
 use Rattle.base.proofs.Choices.{on-true}
 use Rattle.base.proofs.RecordLaws.{records-length}
 use Rattle.base.proofs.WritingLaws.{no-size, buffer-kept, size-is, buffer-is, bytes-stand, behind-kept, room-kept}
-use Rattle.drill_file.specs.Claims.{PartsRight, partsOf, fileIn, Filled, Untouched, ReadBack, WrittenAgain}
+use Rattle.drill_file.specs.Claims.{PartsRight, WithoutKind6, partsOf, fileIn, Filled, Untouched, ReadBack, WrittenAgain}
 use Rattle.drill_file.specs.DrillFile.{versionOf, boxesOf, stationsOf, labelOf, departmentsOf, recordsStart, fileRefusal, headerOf, recordsOf}
 use Rattle.drill_file.specs.Layout.{bodyOf, fileOf}
 use Rattle.drill_file.specs.Writer.{DrillParts, fileFrom, writeRefusal, writtenSize, writtenBuffer}
 use Rattle.drill_file.specs.declared.Header.the-variants.{Accepted}
 use Rattle.drill_file.proofs.LayoutLaws.{rest-records, rest-whole, accepted-rest, accepted-parts, accepted-exactly, written-version, written-passed, written-accepted, written-label, written-departments, written-records}
-use Rattle.drill_file.proofs.WriterLaws.{run-joined, file-size, unrefused, refused-short, refused-none}
+use Rattle.drill_file.proofs.WriterLaws.{run-joined, file-size, unrefused, refused-kind, refused-short, refused-none}
 
 -- a refused buffer
 pub left-untouched : (b : List ℕ) (p : DrillParts) → ¬ (writeRefusal (length b) p ≡ 0) → Untouched b p
@@ -92,7 +92,7 @@ pub parts-apart : (b c : List ℕ) (p q : DrillParts) → writeRefusal (length b
 parts-apart b c p q e f same = sym (reads-back b p e .parts) ∙ ap partsOf same ∙ reads-back c q f .parts
 
 -- an accepted file, taken apart
-module _ (s b : List ℕ) (bytes : Bytes s) (e : fileRefusal s ≡ 0) where
+module _ (s : List ℕ) (bytes : Bytes s) (e : fileRefusal s ≡ 0) where
   taken-file : fileFrom (partsOf s) ≡ s
   unfolding fileFrom
   taken-file = rw (rest-records s) (sym (accepted-exactly s e bytes))
@@ -100,17 +100,20 @@ module _ (s b : List ℕ) (bytes : Bytes s) (e : fileRefusal s ≡ 0) where
   taken-parts : PartsRight (partsOf s)
   taken-parts = rw (rest-records s) (accepted-parts s e)
 
-  pub writes-again : length s ≤ length b → WrittenAgain b s
+  pub writes-again : (b : List ℕ) → WithoutKind6 (recordsOf s) → length s ≤ length b → WrittenAgain b s
   unfolding writtenSize writtenBuffer
-  writes-again h =
-      let accepted = refused-none (length b) (partsOf s) (record { parts = taken-parts; whole = rest-whole s e; fits = rw taken-file h }) in
+  writes-again b n h =
+      let accepted = refused-none (length b) (partsOf s) (record { parts = taken-parts; whole = rest-whole s e; kinds = rw (rest-records s) n; fits = rw taken-file h }) in
       record {
         accepted = accepted;
         size = size-is _ (fileFrom (partsOf s)) b accepted ∙ ap length taken-file;
         same = buffer-is _ (fileFrom (partsOf s)) b accepted ∙ rw taken-file;
       }
 
-  pub writes-short : length b < length s → writeRefusal (length b) (partsOf s) ≡ 18
-  writes-short h =
-      refused-short (length b) (partsOf s) taken-parts (rest-whole s e)
+  pub writes-short : (b : List ℕ) → WithoutKind6 (recordsOf s) → length b < length s → writeRefusal (length b) (partsOf s) ≡ 18
+  writes-short b n h =
+      refused-short (length b) (partsOf s) taken-parts (rest-whole s e) (rw (rest-records s) n)
       ∙ sym (on-true _ (lt-ltb (length b) (length (fileFrom (partsOf s))) (rw taken-file h)) refl)
+
+  pub writes-stops : (room i : ℕ) → i < length (recordsOf s) → getD (getD (recordsOf s) i []) 0 0 ≡ 6 → writeRefusal room (partsOf s) ≡ 7
+  writes-stops room i h q = refused-kind room (partsOf s) taken-parts (rest-whole s e) i (rw (rest-records s) h) (rw (rest-records s) q)

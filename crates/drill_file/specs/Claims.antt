@@ -117,10 +117,15 @@ pub record FileClaims : Type 0 where
 abbrev pub PartsRight : (p : DrillParts) → Type 0
 PartsRight p = FileParts (p .version) (p .boxes) (p .stations) (p .label) (p .departments) (recordsIn (p .run))
 
--- none of its refusals applies: a file may have these parts, and the buffer has room for it
+-- Wish 8 of document 02: "files without kind 6". No record is of kind 6, by its first byte.
+abbrev pub WithoutKind6 : (records : List (List ℕ)) → Type 0
+WithoutKind6 records = (i : ℕ) → i < length records → ¬ (getD (getD records i []) 0 0 ≡ 6)
+
+-- none of its refusals applies: a file may have these parts, none of its records is of kind 6, and the buffer has room for it
 pub record Writable (room : ℕ) (p : DrillParts) : Type 0 where
   pub parts : PartsRight p
   pub whole : length (p .run) % 8 ≡ 0
+  pub kinds : WithoutKind6 (recordsIn (p .run))
   pub fits : length (fileFrom p) ≤ room
 
 -- the parts that a file has for its reader; the run is what stands from the start of the records on
@@ -151,7 +156,7 @@ pub record ReadBack (s : List ℕ) (p : DrillParts) : Type 0 where
   pub parts : partsOf s ≡ p
   pub records : recordsOf s ≡ recordsIn (p .run)
 
--- "an accepted file written again is the same file"
+-- "an accepted file written again is the same file"; wish 8: "writing again speaks of files without kind 6"
 pub record WrittenAgain (buffer s : List ℕ) : Type 0 where
   pub accepted : writeRefusal (length buffer) (partsOf s) ≡ 0
   pub size : writtenSize (length buffer) (partsOf s) ≡ length s
@@ -159,14 +164,17 @@ pub record WrittenAgain (buffer s : List ℕ) : Type 0 where
 
 -- What holds of the writer, for every buffer and all parts.
 pub record WriterClaims : Type 0 where
-  -- a file is written exactly where none of 2, 3, 4, 22, 5 and 18 applies
+  -- a file is written exactly where none of 2, 3, 4, 22, 5, 7 and 18 applies
   pub writable : (buffer : List ℕ) (p : DrillParts) → writeRefusal (length buffer) p ≡ 0 → Writable (length buffer) p
   pub writes : (buffer : List ℕ) (p : DrillParts) → Writable (length buffer) p → writeRefusal (length buffer) p ≡ 0
   pub filled : (buffer : List ℕ) (p : DrillParts) → writeRefusal (length buffer) p ≡ 0 → Filled buffer p
   pub untouched : (buffer : List ℕ) (p : DrillParts) → ¬ (writeRefusal (length buffer) p ≡ 0) → Untouched buffer p
   pub back : (buffer : List ℕ) (p : DrillParts) → writeRefusal (length buffer) p ≡ 0 → ReadBack (fileIn buffer p) p
-  -- an accepted file, taken apart and written again; 18 where the buffer is shorter than the file
-  pub again : (s buffer : List ℕ) → Bytes s → fileRefusal s ≡ 0 → length s ≤ length buffer → WrittenAgain buffer s
-  pub short : (s buffer : List ℕ) → Bytes s → fileRefusal s ≡ 0 → length buffer < length s → writeRefusal (length buffer) (partsOf s) ≡ 18
+  -- an accepted file without kind 6, taken apart and written again; 18 where the buffer is shorter than the file
+  pub again : (s buffer : List ℕ) → Bytes s → fileRefusal s ≡ 0 → WithoutKind6 (recordsOf s) → length s ≤ length buffer → WrittenAgain buffer s
+  pub short : (s buffer : List ℕ) → Bytes s → fileRefusal s ≡ 0 → WithoutKind6 (recordsOf s) → length buffer < length s → writeRefusal (length buffer) (partsOf s) ≡ 18
+  -- one with kind 6, in whichever record, is turned back with 7, whatever the buffer
+  pub stops : (s : List ℕ) (room : ℕ) → Bytes s → fileRefusal s ≡ 0 → (i : ℕ) → i < length (recordsOf s) → getD (getD (recordsOf s) i []) 0 0 ≡ 6
+      → writeRefusal room (partsOf s) ≡ 7
   -- two different sets of parts never make the same file, nor do two versions
   pub apart : (b c : List ℕ) (p q : DrillParts) → writeRefusal (length b) p ≡ 0 → writeRefusal (length c) q ≡ 0 → fileIn b p ≡ fileIn c q → p ≡ q

@@ -1,10 +1,10 @@
 -- Document 02, wish 1: "from n, m, a label and a run of 8-byte records, a writer fills a lent buffer with the file and returns its size".
 -- Wish 6: "the writer, told the version, makes .. both".
 use Prim.Native.Nat.{ℕ}
-use mathlib.Core.Bool.{Bool, true, not}
-use mathlib.Core.List.{List}
-use lib.Dec.{ltb}
-use lib.ListN.{length}
+use mathlib.Core.Bool.{Bool, true, false, not}
+use mathlib.Core.List.{List, [], _∷_}
+use lib.Dec.{eqb, ltb}
+use lib.ListN.{length, getD}
 use Rattle.base.specs.Choice.{if_then_else_}
 use Rattle.base.specs.Numbers.{sizesRight}
 use Rattle.base.specs.Departments.{departmentsWrong}
@@ -40,8 +40,13 @@ wrongText label = if wrongLength (length label) then true else anyByte wrongByte
 unfoldable pub wrongGiven : (version m : ℕ) (departments : List ℕ) → Bool
 wrongGiven version m departments = departmentsWrong (departmentsDue version m) departments
 
--- "Turned away: 3, 4, 5, then 18 when the buffer is shorter than the file". Wish 6: "22, after 4 ..; in the writer 2 comes first". 0 where
--- the file is written. `room` is the buffer's length
+-- one of the records is of that kind, by its first byte: nothing else in a record is looked at
+unfoldable pub hasKind : (kind : ℕ) (records : List (List ℕ)) → Bool
+hasKind kind [] = false
+hasKind kind (r ∷ rs) = if eqb (getD r 0 0) kind then true else hasKind kind rs
+
+-- "Turned away: 3, 4, 5, then 18 when the buffer is shorter than the file". Wish 6: "22, after 4 ..; in the writer 2 comes first". Wish 8:
+-- "the writer turns kind 6 back with 7 between 5 and 18". 0 where the file is written. `room` is the buffer's length
 unfoldable pub writeRefusal : (room : ℕ) (p : DrillParts) → ℕ
 writeRefusal room p =
     if unknownVersion (p .version) then 2
@@ -49,6 +54,7 @@ writeRefusal room p =
     else if wrongText (p .label) then 4
     else if wrongGiven (p .version) (p .stations) (p .departments) then 22
     else if wrongRun (length (p .run)) then 5
+    else if hasKind 6 (recordsIn (p .run)) then 7
     else if ltb room (length (fileFrom p)) then 18
     else 0
 

@@ -1,4 +1,4 @@
-// The writer: a drill file of version 1 or 2 from its parts, in a lent buffer (document 02, wishes 1 and 6).
+// The writer: a drill file of version 1 or 2 from its parts, in a lent buffer (document 02, wishes 1, 6 and 8).
 use base::Written;
 ghost use mathlib.Core.Path.{_≡_};
 ghost use mathlib.Core.List.{[], _∷_, _++_};
@@ -8,7 +8,8 @@ ghost use lib.ListN.{length};
 ghost use mathlib.Core.Bool.{not};
 ghost use Rattle.base.specs.Numbers.{sizesRight};
 ghost use Rattle.base.specs.Bytes.{bytes16};
-ghost use Rattle.drill_file.specs.Writer.{partsGiven, wrongText, wrongGiven, writeRefusal, writtenSize, writtenBuffer};
+ghost use Rattle.base.specs.Records.{recordsIn};
+ghost use Rattle.drill_file.specs.Writer.{partsGiven, wrongText, wrongGiven, hasKind, writeRefusal, writtenSize, writtenBuffer};
 
 // Refusal 3.
 fn wrong_sizes(n: u8, m: u8) -> bool
@@ -52,6 +53,21 @@ fn too_short(room: usize, letters: usize, codes: usize, bytes: usize) -> bool
     left - codes < bytes
 }
 
+// Refusal 7: whether one of the records is of kind 6. Nothing else in a record is looked at.
+fn any_kind_6(records: &[u8]) -> bool
+    ensures { λ y. ⌜ y ≡ hasKind 6 (recordsIn (now (records .entry))) ⌝ }
+{
+    let count = records.len() / 8;
+    let mut k: usize = 0;
+    while k < count {
+        if records[8 * k] == 6 {
+            return true;
+        }
+        k += 1;
+    }
+    false
+}
+
 // The first refusal that applies, 0 where none does.
 fn write_refusal(
     room: usize,
@@ -78,6 +94,9 @@ fn write_refusal(
     }
     if crate::wrong_run(records.len()) {
         return 5;
+    }
+    if any_kind_6(records) {
+        return 7;
     }
     if too_short(room, label.len(), departments.len(), records.len()) {
         return 18;

@@ -1,27 +1,25 @@
--- What a step does to the boxes: which stop, and where their ranks and values come from.
+-- What a step does to the records of the boxes, and where their ranks and values come from.
 use Prim.Native.Nat.{ℕ}
 use native.Mathlib.Nat.{le-refl}
 use native.Mathlib.Omega.{arith}
-use mathlib.Core.Path.{_≡_, refl}
+use mathlib.Core.Path.{_≡_, refl, sym}
 use mathlib.Core.Logic.{_⊎_, inl, inr}
-use mathlib.Core.Bool.{true}
+use mathlib.Core.Bool.{true, false}
 use Rattle.base.proofs.Choices.{by-test}
 use Rattle.register.specs.Register.{registerOf, rmwRead, rmwWrite, takes}
 use Rattle.register.specs.declared.Department.{Department}
-use Rattle.register.specs.declared.Department.the-variants.{Sails, Canvas}
 use Rattle.register.specs.declared.Register.{Register}
 use Rattle.register.specs.declared.StorageBox.{StorageBox}
 use Rattle.register.specs.declared.ReadDone.{ReadDone}
 use Rattle.register.specs.declared.WriteDone.{WriteDone}
-use Rattle.register.proofs.DepartmentLaws.{same-or-not, box-own, box-other}
+use Rattle.register.proofs.DepartmentLaws.{same-or-not, box-own, box-other, register-moved}
 use Rattle.register.proofs.RegisterLaws.{ReadCase, outranked, answered, read-case, takes-means}
 use Rattle.floor.specs.Floors.{boxAt, rowAt, registerAt, InUse}
 use Rattle.floor.specs.Effects.{servedBy}
 use Rattle.floor.specs.Step.{applyOf}
-use Rattle.floor.specs.Claims.{Grown, BoxMove, box-kept, box-serves, box-stops}
+use Rattle.floor.specs.Claims.{Grown, BoxMove, ServesNow, box-kept, box-serves, box-stops, box-returns}
 use Rattle.floor.specs.declared.Floor.{Floor}
 use Rattle.commands.specs.declared.Outcome.{Outcome}
-use Rattle.commands.specs.declared.Outcome.the-variants.{Stopped}
 use Rattle.commands.specs.declared.Command.{Command}
 use Rattle.requests.specs.declared.Phase.{Phase}
 use Rattle.requests.specs.declared.Phase.the-variants.{Read, Write}
@@ -60,15 +58,15 @@ module _ (f : Floor) (x : Register) (a : ℕ) (h : InUse f a) where
   grown-served Write = grown-write
 
 module _ {f : Floor} {c : Command} {j : ℕ} where
-  stopped-kept : {o : Outcome} {x : StorageBox} → BoxMove f c j o x → boxAt f j .away ≡ true → x ≡ boxAt f j
-  stopped-kept box-kept e = refl
-  stopped-kept (box-serves q u t) e = clash e t
-  stopped-kept (box-stops q t) e = clash e t
-
-  stopped-by : {o : Outcome} {x : StorageBox} → BoxMove f c j o x → x .away ≡ true → (boxAt f j .away ≡ true) ⊎ (o ≡ Stopped j)
-  stopped-by box-kept e = inl e
-  stopped-by (box-serves q u t) e = inl e
-  stopped-by (box-stops q t) e = inr refl
+  -- a record changes at a serve there only
+  changed : {o : Outcome} {x : StorageBox} (d : Department) → BoxMove f c j o x → (registerOf d x ≡ registerAt f d j) ⊎ ServesNow f d c j o
+  changed d box-kept = inl refl
+  changed d (box-serves {p = p} {a = a} q u t) = elim (same-or-not d (rowDepartment a)) [
+    | inl e ↦ inr (record { phase = p; attempt = a; of = sym e; command = q; not-away = t; outcome = refl })
+    | inr n ↦ inl (box-other (rowDepartment a) d (boxAt f j) (registerServed p (rowAt f a) (servedBy f a j)) (boxAt f j .away) n)
+  ]
+  changed d (box-stops q t) = inl (register-moved d (boxAt f j) true)
+  changed d (box-returns q t) = inl (register-moved d (boxAt f j) false)
 
   -- a box serves for one department, and the record of the other is untouched
   grown : {o : Outcome} {x : StorageBox} (d : Department) → BoxMove f c j o x → Grown f d (registerAt f d j) (registerOf d x)
@@ -77,8 +75,8 @@ module _ {f : Floor} {c : Command} {j : ℕ} where
     | inl e ↦ rw (e, box-own (rowDepartment a) (boxAt f j) _ (boxAt f j .away)) (grown-served f (registerAt f (rowDepartment a) j) a u p)
     | inr n ↦ rw (box-other (rowDepartment a) d (boxAt f j) (registerServed p (rowAt f a) (servedBy f a j)) (boxAt f j .away) n) (grown-same f d (registerAt f d j))
   ]
-  grown Sails (box-stops q t) = grown-same f Sails (registerAt f Sails j)
-  grown Canvas (box-stops q t) = grown-same f Canvas (registerAt f Canvas j)
+  grown d (box-stops q t) = rw (register-moved d (boxAt f j) true) (grown-same f d (registerAt f d j))
+  grown d (box-returns q t) = rw (register-moved d (boxAt f j) false) (grown-same f d (registerAt f d j))
 
 -- the box j before and after the step, and what the step said
 module _ (f : Floor) (c : Command) (j : ℕ) where
@@ -91,12 +89,12 @@ module _ (f : Floor) (c : Command) (j : ℕ) where
   abbrev said : Outcome
   said = applyOf f c .outcome
 
-  -- "Stop box b, for good": a stopped box never changes again, and a box is stopped by the step that says so only
-  pub stopped-stays : before .away ≡ true → after ≡ before
-  stopped-stays = stopped-kept (apply-box f c j)
+  -- a record of a box changes at a serve there only, where the box is not away
+  pub record-from : (d : Department) → (registerOf d after ≡ registerOf d before) ⊎ ServesNow f d c j said
+  record-from d = changed d (apply-box f c j)
 
-  pub stopped-from : after .away ≡ true → (before .away ≡ true) ⊎ (said ≡ Stopped j)
-  stopped-from = stopped-by (apply-box f c j)
+  pub away-keeps : (d : Department) → before .away ≡ true → registerOf d after ≡ registerOf d before
+  away-keeps d e = elim (record-from d) [ inl q ↦ q | inr x ↦ clash e (x .not-away) ]
 
   -- a box's ranks never fall, and each is its old one or that of a row in use
   pub box-grown : (d : Department) → Grown f d (registerOf d before) (registerOf d after)

@@ -11,7 +11,8 @@ use Rattle.floor.proofs.Keeps.{step-refused-same, new-sound, new-length
 use Rattle.floor.proofs.Numbered.{refused-number, apply-number, apply-value}
 use Rattle.floor.proofs.Outcomes.{step-means}
 use Rattle.floor.proofs.Moves.{apply-station, apply-box, apply-row}
-use Rattle.floor.proofs.BoxLaws.{stopped-stays, box-grown}
+use Rattle.floor.proofs.BoxLaws.{record-from, away-keeps, box-grown}
+use Rattle.floor.proofs.AwayLaws.{row-held, waits-until, waits-on, away-moves}
 use Rattle.floor.proofs.StationLaws.{gone-stays, department-stays, last-from, decided-from}
 use Rattle.floor.proofs.RowLaws.{apply-share, row-same, step-counted}
 use Rattle.floor.proofs.StandingLaws.{apply-standing}
@@ -35,7 +36,12 @@ step-claims = record {
   storage = λ f r. apply-box f (commandOf r);
   row = λ f r. apply-row f (commandOf r);
   standing = λ f r z y a h p b k. apply-standing f z y a h p b k (commandOf r);
-  stopped-stays = λ f r. stopped-stays f (commandOf r);
+  record-from = λ f r d b. record-from f (commandOf r) b d;
+  waits-until = λ f r z y p a b w. waits-until f (commandOf r) y p a b w z;
+  waits-keeps = λ f r y p a b w. row-held f (commandOf r) y p a b w;
+  away-keeps = λ f r d b. away-keeps f (commandOf r) b d;
+  away-waits = λ f r z y p a b e w. waits-on f (commandOf r) y p a b w z e;
+  away-moves = λ f r. away-moves f (commandOf r);
   gone-stays = λ f r. gone-stays f (commandOf r);
   grown = λ f r d j. box-grown f (commandOf r) j d;
   last-from = λ f r. last-from f (commandOf r);

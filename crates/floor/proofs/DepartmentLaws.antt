@@ -2,18 +2,16 @@
 use Prim.Native.Nat.{ℕ}
 use mathlib.Core.Path.{_≡_, refl, sym, ap, subst, _∙_}
 use mathlib.Core.Logic.{inl, inr}
-use mathlib.Core.Bool.{false}
+use mathlib.Core.Bool.{Bool, true, false}
 use mathlib.Core.List.{List, []}
 use lib.ListN.{getD, set}
 use lib.Seq.{getD-set-other}
 use Rattle.base.proofs.Cases.{clash}
 use Rattle.base.proofs.Stores.{set-all}
-use Rattle.register.specs.Register.{isOf, box0, registerOf, boxWith}
+use Rattle.register.specs.Register.{isOf, box0, registerOf}
 use Rattle.register.specs.declared.Department.{Department}
-use Rattle.register.specs.declared.Department.the-variants.{Sails, Canvas}
-use Rattle.register.specs.declared.Register.{Register}
 use Rattle.register.specs.declared.StorageBox.{StorageBox}
-use Rattle.register.proofs.DepartmentLaws.{same-is, box-other}
+use Rattle.register.proofs.DepartmentLaws.{same-is, box-other, register-moved}
 use Rattle.commands.specs.Commands.{commandOf}
 use Rattle.commands.specs.Outcomes.{isRefused, isBegun}
 use Rattle.commands.specs.declared.Command.{Command}
@@ -23,9 +21,8 @@ use Rattle.attempts.specs.Rows.{row0, rowDepartment, newRow}
 use Rattle.attempts.specs.Rows as rows
 use Rattle.attempts.specs.declared.Station.{Station}
 use Rattle.attempts.specs.declared.Row.{Row}
-use Rattle.floor.specs.Floors.{boxAt, stationAt, rowAt, registerAt, departmentAt, InUse, emptyFloor, newFloorOf}
-use Rattle.floor.specs.Effects.{rowTaken, shareAfter, beginner, afterBegin}
-use Rattle.floor.specs.Effects as effects
+use Rattle.floor.specs.Floors.{boxAt, stationAt, rowAt, registerAt, departmentAt, withBox, newFloorOf}
+use Rattle.floor.specs.Effects.{rowTaken, shareAfter, beginner, afterBegin, withAway}
 use Rattle.floor.specs.Step.{applyOf, stepOf}
 use Rattle.floor.specs.Claims.{Lengths}
 use Rattle.floor.specs.Departments.{belongs, SameFor, Owned, DepartmentClaims}
@@ -33,7 +30,7 @@ use Rattle.floor.specs.declared.Floor.{Floor}
 use Rattle.floor.specs.declared.Stepped.{Stepped}
 use Rattle.floor.proofs.UseLaws.{share-other}
 use Rattle.floor.proofs.FreeLaws.{next-own}
-use Rattle.floor.proofs.StepCases.{StepCase, turned, began, served, heard, issued, decided, aborted, stopped, left, apply-case}
+use Rattle.floor.proofs.StepCases.{StepCase, turned, began, served, heard, issued, decided, aborted, stopped, left, returned, apply-case}
 use Rattle.floor.proofs.StepCases as cases
 use Rattle.floor.proofs.Keeps.{row-stored, empty-unused, new-floor-by}
 use Rattle.floor.proofs.RowLaws.{apply-in-use, row-same}
@@ -57,12 +54,9 @@ module _ (d : Department) (f : Floor) where
   registers-kept : (b : ℕ) (x : StorageBox) → registerOf d x ≡ registerAt f d b → (j : ℕ) → registerOf d (getD (set (f .boxes) b x) j box0) ≡ registerAt f d j
   registers-kept b x e = set-all box0 (λ (j : ℕ) (y : StorageBox). registerOf d y ≡ registerAt f d j) (f .boxes) b x (λ j. refl) e
 
-  stopped-kept : (x : StorageBox) → registerOf d (effects.stopped x) ≡ registerOf d x
-  stopped-kept x = go d
-    where
-      go : (e : Department) → registerOf e (effects.stopped x) ≡ registerOf e x
-      go Sails = refl
-      go Canvas = refl
+  -- a box is put away or brought back
+  box-untouched : (b : ℕ) (t : Bool) → SameFor d f (withBox f b (withAway t (boxAt f b)))
+  box-untouched b t = record { registers = registers-kept b _ (register-moved d (boxAt f b) t); share = refl; rows = λ a _. refl; stations = λ s _. refl; departments = λ s. refl }
 
   same-as : SameFor d f f
   same-as = record { registers = λ b. refl; share = refl; rows = λ a _. refl; stations = λ s _. refl; departments = λ s. refl }
@@ -117,8 +111,7 @@ case-untouched {f} (aborted {a = a} z y r q t) d o e =
       stations = stations-kept d f (rowAt f a .station) _ (λ q. n (sym (o a (y .used)) ∙ q));
       departments = departments-kept d f (rowAt f a .station) _ refl;
     }
-case-untouched {f} (cases.stopped {b = b} z y) d o e =
-    record { registers = registers-kept d f b _ (stopped-kept d f (boxAt f b)); share = refl; rows = λ a _. refl; stations = λ s _. refl; departments = λ s. refl }
+case-untouched {f} (cases.stopped {b = b} z y) d o e = box-untouched d f b true
 case-untouched {f} (left {s = s} z y) d o e =
     record {
       registers = λ b. refl;
@@ -127,6 +120,7 @@ case-untouched {f} (left {s = s} z y) d o e =
       stations = stations-kept d f s _ (not-of d (departmentAt f s) e);
       departments = departments-kept d f s _ refl;
     }
+case-untouched {f} (cases.returned {b = b} z y) d o e = box-untouched d f b false
 
 pub apply-untouched : (f : Floor) (c : Command) (d : Department) → Owned f → belongs f d c ≡ false → SameFor d f (applyOf f c .floor)
 apply-untouched f c = case-untouched (apply-case f c)
@@ -146,6 +140,7 @@ begun-owned y (decided z d r q t) a e = clash (ap isBegun e) refl
 begun-owned y (aborted z d r q t) a e = clash (ap isBegun e) refl
 begun-owned y (stopped z d) a e = clash (ap isBegun e) refl
 begun-owned y (left z d) a e = clash (ap isBegun e) refl
+begun-owned y (returned z d) a e = clash (ap isBegun e) refl
 
 pub apply-owned : (f : Floor) (c : Command) → Lengths f → Owned f → Owned (applyOf f c .floor)
 apply-owned f c y o a h =

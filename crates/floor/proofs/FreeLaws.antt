@@ -6,14 +6,10 @@ use native.Mathlib.Decide.{decLt}
 use mathlib.Core.Path.{_≡_, refl, sym, subst, _∙_}
 use mathlib.Core.Logic.{inl, inr}
 use mathlib.Core.Bool.{Bool, true, false}
-use mathlib.Core.List.{List}
-use lib.ListN.{getD}
 use borrow.Author.Tests.{lt-ltb, le-ltb, ltb-true, ltb-false}
 use Rattle.base.proofs.Cases.{clash, up-to}
 use Rattle.base.proofs.Choices.{on-true, on-false, first-false, by-test}
-use Rattle.register.specs.Register.{box0}
 use Rattle.register.specs.declared.Department.{Department}
-use Rattle.register.specs.declared.StorageBox.{StorageBox}
 use Rattle.attempts.specs.Stations.{isActive}
 use Rattle.attempts.specs.Rows.{rowDepartment, firstRow, waitsAt, usedAfter}
 use Rattle.attempts.proofs.RowDepartments.{row-own, first-most, row-least, row-number, row-most}
@@ -26,51 +22,47 @@ use Rattle.floor.specs.declared.Floor.{Floor}
 use Rattle.floor.specs.declared.free.Lowest.{Lowest}
 
 -- one box more
-still-before : (t s w : Bool) → stillServed t s w ≡ true → t ≡ true
+still-before : (t w : Bool) → stillServed t w ≡ true → t ≡ true
 unfolding stillServed
-still-before t s w =
-    by-test (λ (x : Bool). x ≡ true → t ≡ true) s _ _ (λ _ e. e) (λ _. by-test (λ (x : Bool). x ≡ true → t ≡ true) w _ _ (λ _ e. clash e refl) (λ _ e. e))
+still-before t w = by-test (λ (x : Bool). x ≡ true → t ≡ true) w _ _ (λ _ e. clash e refl) (λ _ e. e)
 
-still-here : (t s w : Bool) → stillServed t s w ≡ true → s ≡ false → w ≡ false
+still-here : (t w : Bool) → stillServed t w ≡ true → w ≡ false
 unfolding stillServed
-still-here t s w =
-    by-test (λ (x : Bool). x ≡ true → s ≡ false → w ≡ false) s _ _ (λ q e h. clash q h)
-    (λ _. by-test (λ (x : Bool). x ≡ true → s ≡ false → w ≡ false) w _ _ (λ _ e. clash e refl) (λ q e h. q))
+still-here t w = by-test (λ (x : Bool). x ≡ true → w ≡ false) w _ _ (λ _ e. clash e refl) (λ q _. q)
 
-still-holds : (t s w : Bool) → t ≡ true → (s ≡ false → w ≡ false) → stillServed t s w ≡ true
+still-holds : (t w : Bool) → t ≡ true → w ≡ false → stillServed t w ≡ true
 unfolding stillServed
-still-holds t s w e h =
-    by-test (λ (x : Bool). x ≡ true) s _ _ (λ _. e) (λ q. by-test (λ (x : Bool). x ≡ true) w _ _ (λ u. clash u (h q)) (λ _. e))
+still-holds t w e h = by-test (λ (x : Bool). x ≡ true) w _ _ (λ u. clash u h) (λ _. e)
 
-module _ (w : Row) (boxes : List StorageBox) where
+module _ (w : Row) where
   abbrev Rests : ℕ → Type 0
-  Rests b = getD boxes b box0 .away ≡ false → waitsAt w b ≡ false
+  Rests b = waitsAt w b ≡ false
 
-  served-means : (k : ℕ) → allServed w boxes k ≡ true → (b : ℕ) → b < k → Rests b
+  served-means : (k : ℕ) → allServed w k ≡ true → (b : ℕ) → b < k → Rests b
   unfolding allServed
   served-means zero e b h = absurd (omega arith)
   served-means (suc k) e b h = elim (up-to h) [
-    | inl q ↦ subst Rests (sym q) (still-here _ _ _ e)
-    | inr q ↦ served-means k (still-before _ _ _ e) b q
+    | inl q ↦ subst Rests (sym q) (still-here _ _ e)
+    | inr q ↦ served-means k (still-before _ _ e) b q
   ]
 
-  served-holds : (k : ℕ) → ((b : ℕ) → b < k → Rests b) → allServed w boxes k ≡ true
+  served-holds : (k : ℕ) → ((b : ℕ) → b < k → Rests b) → allServed w k ≡ true
   unfolding allServed
   served-holds zero h = refl
-  served-holds (suc k) h = still-holds _ _ _ (served-holds k (λ b l. h b (omega arith))) (h k (omega arith))
+  served-holds (suc k) h = still-holds _ _ (served-holds k (λ b l. h b (omega arith))) (h k (omega arith))
 
 module _ (f : Floor) (a : ℕ) where
+  pub free-holds : Free f a → isFree f a ≡ true
+  unfolding freeIn
+  free-holds z =
+      sym (on-false _ (z .over) (sym (served-holds (rowAt f a) (f .n) (λ b h. waits-none (rowAt f a) b (z .served b h)))))
+
   pub free-means : isFree f a ≡ true → Free f a
   unfolding freeIn
   free-means e = let p = first-false _ _ e in record {
     over = p .0;
-    served = λ b h s. none-waits (rowAt f a) b (served-means (rowAt f a) (f .boxes) (f .n) (p .1) b h s);
+    served = λ b h. none-waits (rowAt f a) b (served-means (rowAt f a) (f .n) (p .1) b h);
   }
-
-  pub free-holds : Free f a → isFree f a ≡ true
-  unfolding freeIn
-  free-holds z =
-      sym (on-false _ (z .over) (sym (served-holds (rowAt f a) (f .boxes) (f .n) (λ b h s. waits-none (rowAt f a) b (z .served b h s)))))
 
 -- the row a, with its rank
 abbrev at : Floor → ℕ → Lowest
@@ -122,7 +114,7 @@ module _ (f : Floor) (d : Department) where
     still-nothing : ((c : ℕ) → c < k → freed c ≡ false) → freed k ≡ false → Next noRow
     still-nothing all e = nothing (λ c i. elim (up-to i) [ inl p ↦ subst (λ (j : ℕ). freed j ≡ false) (sym p) e | inr i ↦ all c i ])
 
-    more : {x : Lowest} → BestBelow k x → Next (betterIn x (rowAt f (own k)) (ownerAt f (own k) .state) (f .boxes) (f .n) (own k))
+    more : {x : Lowest} → BestBelow k x → Next (betterIn x (rowAt f (own k)) (ownerAt f (own k) .state) (f .n) (own k))
     unfolding betterIn
     more (best {a} l e all first) =
         by-test Next (lowerIn (at f (own a)) (rank k)) _ _

@@ -13,7 +13,7 @@ use Rattle.base.proofs.Cases.{clash}
 use Rattle.base.proofs.Choices.{by-test}
 use Rattle.register.specs.Register.{box0, boxWith}
 use Rattle.register.specs.declared.Department.{Department}
-use Rattle.register.proofs.DepartmentLaws.{box-same, stop-box}
+use Rattle.register.proofs.DepartmentLaws.{box-same, box-moved}
 use Rattle.requests.specs.Requests.{verdictOf}
 use Rattle.requests.specs.declared.Phase.{Phase}
 use Rattle.requests.specs.declared.Phase.the-variants.{Read, Write}
@@ -21,25 +21,25 @@ use Rattle.requests.specs.declared.Verdict.{Verdict}
 use Rattle.requests.specs.declared.Verdict.the-variants.{Open, Yes, No}
 use Rattle.commands.specs.Outcomes.{isRefused}
 use Rattle.commands.specs.declared.Command.{Command}
-use Rattle.commands.specs.declared.Command.the-variants.{Begin, Serve, Deliver, Stop, Leave, Malformed}
+use Rattle.commands.specs.declared.Command.the-variants.{Begin, Serve, Deliver, Stop, Leave, Return, Malformed}
 use Rattle.commands.specs.declared.Outcome.the-variants.{Refused}
 use Rattle.attempts.specs.Stations.{station0}
 use Rattle.attempts.specs.Rows.{row0, rowDepartment, firstRow, requestsHeard, rowHeard}
 use Rattle.attempts.specs.declared.Row.{Row}
-use Rattle.parts.specs.Parts.{placeIn, attemptIn, boxIn, stationIn, departmentIn, beginIn, serveIn, deliverIn, stopIn, leaveIn, refusalIn, begun, served, receivedOnly, readEnded, heardBy, delivered, turnedBack, effectIn, changeIn}
+use Rattle.parts.specs.Parts.{placeIn, attemptIn, boxIn, stationIn, departmentIn, beginIn, serveIn, deliverIn, stopIn, leaveIn, returnIn, refusalIn, begun, served, receivedOnly, readEnded, heardBy, delivered, turnedBack, effectIn, changeIn}
 use Rattle.parts.specs.declared.Parts.{Parts}
 use Rattle.parts.specs.declared.Changed.{Changed}
 use Rattle.parts.proofs.PlaceLaws.{place-same}
 use Rattle.floor.specs.Floors.{boxAt, stationAt, rowAt, registerAt, departmentAt, usedOf, highestOf, endOf, InUse, sharesWith}
 use Rattle.floor.specs.Free.{takenBy}
-use Rattle.floor.specs.Refusals.{beginRefusal, serveRefusal, deliverRefusal, stopRefusal, leaveRefusal, refusalOn}
+use Rattle.floor.specs.Refusals.{beginRefusal, serveRefusal, deliverRefusal, stopRefusal, leaveRefusal, returnRefusal, refusalOn}
 use Rattle.floor.specs.Effects.{rowTaken, receivedOn, verdictOn, heardOn, deliveredOn, effectOn}
 use Rattle.floor.specs.Step.{applyOf}
 use Rattle.floor.specs.Claims.{Sound}
 use Rattle.floor.specs.declared.Floor.{Floor}
 use Rattle.floor.specs.declared.Stepped.{Stepped}
 use Rattle.floor.proofs.UseLaws.{share-same, in-use-most}
-use Rattle.floor.proofs.RefusalLaws.{begin-means, serve-means, deliver-means, stop-means, leave-means}
+use Rattle.floor.proofs.RefusalLaws.{begin-means, serve-means, deliver-means, stop-means, leave-means, return-means}
 use Rattle.floor.proofs.StepLaws.{apply-refused, apply-accepted}
 
 -- the department that a command belongs to on a floor
@@ -126,12 +126,13 @@ module _ (f : Floor) (z : Sound f) where
 
   -- a step is refused alike
   pub refusal-join : (c : Command) → refusalIn (look f c) c ≡ refusalOn f c
-  unfolding beginIn serveIn deliverIn stopIn leaveIn beginRefusal serveRefusal deliverRefusal stopRefusal leaveRefusal
+  unfolding beginIn serveIn deliverIn stopIn leaveIn returnIn beginRefusal serveRefusal deliverRefusal stopRefusal leaveRefusal returnRefusal
   refusal-join (Begin s round v) = same-else _ _ _ _ (λ h. rw (at-station s (leb-false (f .m) s h)))
   refusal-join (Serve p a b) = same-past _ _ _ _ _ _ (λ h l. rw (at-row a (leb-false (endOf f (rowDepartment a)) a h), at-box b (leb-false (f .n) b l)))
   refusal-join (Deliver p a b) = same-past _ _ _ _ _ _ (λ h _. rw (at-row a (leb-false (endOf f (rowDepartment a)) a h), at-owner a (leb-false (endOf f (rowDepartment a)) a h)))
   refusal-join (Stop b) = same-else _ _ _ _ (λ h. rw (at-box b (leb-false (f .n) b h)))
   refusal-join (Leave s) = same-else _ _ _ _ (λ h. rw (at-station s (leb-false (f .m) s h)))
+  refusal-join (Return b) = same-else _ _ _ _ (λ h. rw (at-box b (leb-false (f .n) b h)))
   refusal-join Malformed = refl
 
   -- and leads to the same floor
@@ -176,9 +177,12 @@ module _ (f : Floor) (z : Sound f) where
   effect-join (Deliver p a b) e = deliver-join a b (deliver-means f p a b e .used) p
   effect-join (Stop b) e =
       let d = stepDepartment f (Stop b) in
-      rw (at-box b (stop-means f b e .box), share-same d f, stop-box d (boxAt f b), set-getD (f .stations) _ station0, set-getD (f .rows) _ row0)
+      rw (at-box b (stop-means f b e .box), share-same d f, box-moved d (boxAt f b) true, set-getD (f .stations) _ station0, set-getD (f .rows) _ row0)
   effect-join (Leave s) e =
       rw (at-station s (leave-means f s e .station), share-same (departmentAt f s) f, box-same (departmentAt f s) (boxAt f (placeIn 9 0)), set-getD (f .boxes) _ box0, set-getD (f .rows) _ row0)
+  effect-join (Return b) e =
+      let d = stepDepartment f (Return b) in
+      rw (at-box b (return-means f b e .box), share-same d f, box-moved d (boxAt f b) false, set-getD (f .stations) _ station0, set-getD (f .rows) _ row0)
   effect-join Malformed e = absurd (omega (arith, e))
 
   -- the step on the parts says what the step on the floor says, and where it was accepted, the parts stored make its floor

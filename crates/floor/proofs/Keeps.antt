@@ -31,7 +31,7 @@ use Rattle.floor.specs.declared.Floor.{Floor}
 use Rattle.floor.specs.declared.Stepped.{Stepped}
 use Rattle.floor.specs.declared.NewFloor.{NewFloor}
 use Rattle.commands.specs.declared.Command.{Command}
-use Rattle.commands.specs.declared.Command.the-variants.{Begin, Serve, Deliver, Stop, Leave, Malformed}
+use Rattle.commands.specs.declared.Command.the-variants.{Begin, Serve, Deliver, Stop, Leave, Return, Malformed}
 use Rattle.base.specs.Claims.{Sizes, Departments}
 use Rattle.base.proofs.DepartmentLaws.{departments-mean}
 use Rattle.base.proofs.SizeLaws.{sizes-mean}
@@ -48,7 +48,7 @@ use Rattle.attempts.proofs.UsedLaws.{used-least, used-most}
 use Rattle.floor.specs.declared.Share.{Share}
 use Rattle.floor.proofs.UseLaws.{share-own, share-other, in-use-most, use-of, of-use}
 use Rattle.floor.proofs.FreeLaws.{next-own, next-in, next-other}
-use Rattle.floor.proofs.StepCases.{StepCase, turned, began, served, heard, issued, decided, aborted, stopped, left, apply-case, apply-refusal}
+use Rattle.floor.proofs.StepCases.{StepCase, turned, began, served, heard, issued, decided, aborted, stopped, left, returned, apply-case, apply-refusal}
 
 -- "Floor, record and reply stay unchanged": a refused step hands back the very floor
 pub refused-same : (f : Floor) (c : Command) → isRefused (applyOf f c .outcome) ≡ true → applyOf f c .floor ≡ f
@@ -69,6 +69,7 @@ sizes (decided z d r q t) = record { boxes = refl; stations = refl }
 sizes (aborted z d r q t) = record { boxes = refl; stations = refl }
 sizes (stopped z d) = record { boxes = refl; stations = refl }
 sizes (left z d) = record { boxes = refl; stations = refl }
+sizes (returned z d) = record { boxes = refl; stations = refl }
 
 pub apply-sizes : (f : Floor) (c : Command) → SameSizes f (applyOf f c .floor)
 apply-sizes f c = sizes (apply-case f c)
@@ -150,6 +151,7 @@ keeps {f} (decided {a = a} z d r q t) y = sound-on f _ refl refl refl (owner-kep
 keeps {f} (aborted {a = a} z d r q t) y = sound-on f _ refl refl refl (owner-kept (f .rows) a _ refl) y
 keeps {f} (stopped z d) y = sound-on f _ refl refl refl (λ a. refl) y
 keeps {f} (left z d) y = sound-on f _ refl refl refl (λ a. refl) y
+keeps {f} (returned z d) y = sound-on f _ refl refl refl (λ a. refl) y
 
 -- a step keeps a sound floor sound, accepted or refused
 pub apply-keeps : (f : Floor) (c : Command) → Sound f → Sound (applyOf f c .floor)
@@ -172,6 +174,7 @@ effect-said f (Serve p a b) e = refl
 effect-said f (Deliver p a b) e = by-test (λ (x : Stepped). isRefused (x .outcome) ≡ false) _ _ _ (λ _. heard-said p (verdictOn f p a b) f a b) (λ _. refl)
 effect-said f (Stop b) e = refl
 effect-said f (Leave s) e = refl
+effect-said f (Return b) e = refl
 effect-said f Malformed e = absurd (omega (arith, e))
 
 -- a row's own arrays have their lengths
@@ -232,6 +235,8 @@ lengths {f} (stopped {b = b} z d) y =
     record { boxes = length-set (f .boxes) b _ ∙ y .boxes; stations = y .stations; rows = y .rows; slots = y .slots; answers = y .answers }
 lengths {f} (left {s = s} z d) y =
     record { boxes = y .boxes; stations = length-set (f .stations) s _ ∙ y .stations; rows = y .rows; slots = y .slots; answers = y .answers }
+lengths {f} (returned {b = b} z d) y =
+    record { boxes = length-set (f .boxes) b _ ∙ y .boxes; stations = y .stations; rows = y .rows; slots = y .slots; answers = y .answers }
 
 pub apply-lengths : (f : Floor) (c : Command) → Lengths f → Lengths (applyOf f c .floor)
 apply-lengths f c = lengths (apply-case f c)

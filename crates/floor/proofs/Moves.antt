@@ -11,14 +11,14 @@ use Rattle.floor.specs.Floors.{boxAt, stationAt, rowAt}
 use Rattle.floor.specs.Step.{applyOf}
 use Rattle.attempts.specs.declared.Station.{Station}
 use Rattle.attempts.specs.declared.Row.{Row}
-use Rattle.floor.specs.Claims.{StationMove, station-kept, station-begins, station-issues, station-decides, station-aborts, station-leaves, BoxMove, box-kept, box-serves, box-stops, RowMove, row-kept, row-begins, row-served, row-heard, row-issues}
+use Rattle.floor.specs.Claims.{StationMove, station-kept, station-begins, station-issues, station-decides, station-aborts, station-leaves, BoxMove, box-kept, box-serves, box-stops, box-returns, RowMove, row-kept, row-begins, row-served, row-heard, row-issues}
 use Rattle.floor.specs.declared.Floor.{Floor}
 use Rattle.floor.specs.declared.Stepped.{Stepped}
 use Rattle.commands.specs.declared.Outcome.{Outcome}
 use Rattle.commands.specs.declared.Command.{Command}
 use Rattle.base.proofs.Stores.{set-all}
 use Rattle.floor.specs.Effects.{rowTaken}
-use Rattle.floor.proofs.StepCases.{StepCase, turned, began, served, heard, issued, decided, aborted, stopped, left, apply-case}
+use Rattle.floor.proofs.StepCases.{StepCase, turned, began, served, heard, issued, decided, aborted, stopped, left, returned, apply-case}
 
 -- the station s is stored; the others are kept
 stations-moved : (f : Floor) (c : Command) (o : Outcome) (s : ℕ) (x : Station) → StationMove f c s o x → (j : ℕ) → StationMove f c j o (getD (set (f .stations) s x) j station0)
@@ -40,6 +40,7 @@ station-moves {f} (decided {a = a} z d r q t) j = stations-moved f _ _ (rowAt f 
 station-moves {f} (aborted {a = a} z d r q t) j = stations-moved f _ _ (rowAt f a .station) _ (station-aborts refl (d .used) refl r) j
 station-moves (stopped z d) j = station-kept
 station-moves {f} (left {s = s} z d) j = stations-moved f _ _ s _ (station-leaves refl (d .here)) j
+station-moves (returned z d) j = station-kept
 
 box-moves : {f : Floor} {c : Command} {s : Stepped} → StepCase f c s → (j : ℕ) → BoxMove f c j (s .outcome) (boxAt (s .floor) j)
 box-moves (turned k t) j = box-kept
@@ -51,6 +52,7 @@ box-moves (decided z d r q t) j = box-kept
 box-moves (aborted z d r q t) j = box-kept
 box-moves {f} (stopped {b = b} z d) j = boxes-moved f _ _ b _ (box-stops refl (d .answers)) j
 box-moves (left z d) j = box-kept
+box-moves {f} (returned {b = b} z d) j = boxes-moved f _ _ b _ (box-returns refl (d .away)) j
 
 row-moves : {f : Floor} {c : Command} {s : Stepped} → StepCase f c s → (j : ℕ) → RowMove f c j (s .outcome) (rowAt (s .floor) j)
 row-moves (turned k t) j = row-kept
@@ -62,6 +64,7 @@ row-moves {f} (decided {a = a} z d r q t) j = rows-moved f _ _ a _ (row-heard re
 row-moves {f} (aborted {a = a} z d r q t) j = rows-moved f _ _ a _ (row-heard refl d refl) j
 row-moves (stopped z d) j = row-kept
 row-moves (left z d) j = row-kept
+row-moves (returned z d) j = row-kept
 
 module _ (f : Floor) (c : Command) (j : ℕ) where
   pub apply-station : StationMove f c j (applyOf f c .outcome) (stationAt (applyOf f c .floor) j)

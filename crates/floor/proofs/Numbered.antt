@@ -1,15 +1,15 @@
--- The number of a step's outcome is that of its refusal, 0 or 6 to 14, and its value that of its effect.
-use Prim.Native.Nat.{ℕ, _≤_}
+-- The number of a step's outcome is that of its refusal, 0 or one of those of a step, and its value that of its effect.
+use Prim.Native.Nat.{ℕ}
 use native.Mathlib.Omega.{arith}
 use native.Mathlib.Decide.{ℕ-discrete}
-use mathlib.Core.Path.{_≡_, refl, sym, ap, _∙_}
+use mathlib.Core.Path.{_≡_, refl, sym, ap, subst, _∙_}
 use mathlib.Core.Bool.{Bool, true, false}
 use borrow.Author.Tests.{eq-eqb, ne-eqb}
 use Rattle.base.specs.Choice.{if_then_else_}
 use Rattle.base.proofs.Choices.{on-true, on-false, choice-ap}
 use Rattle.base.proofs.Cases.{clash}
 use Rattle.floor.specs.Sound.{soundOf}
-use Rattle.floor.specs.Claims.{Sound}
+use Rattle.floor.specs.Claims.{Sound, RefusalOfStep}
 use Rattle.requests.specs.declared.Phase.{Phase}
 use Rattle.requests.specs.declared.Phase.the-variants.{Read, Write}
 use Rattle.requests.specs.declared.Verdict.{Verdict}
@@ -23,7 +23,7 @@ use Rattle.floor.specs.Step.{applyOf, refusalOf, valueSaid}
 use Rattle.floor.specs.declared.Floor.{Floor}
 use Rattle.floor.specs.declared.Stepped.{Stepped}
 use Rattle.commands.specs.declared.Command.{Command}
-use Rattle.commands.specs.declared.Command.the-variants.{Begin, Serve, Deliver, Stop, Leave, Malformed}
+use Rattle.commands.specs.declared.Command.the-variants.{Begin, Serve, Deliver, Stop, Leave, Return, Malformed}
 use Rattle.floor.proofs.SoundLaws.{sound-means}
 use Rattle.floor.proofs.StepCases.{apply-refusal}
 use Rattle.floor.proofs.StepLaws.{apply-unsound, apply-refused, apply-accepted}
@@ -51,6 +51,7 @@ effect-value f (Serve p a b) = refl
 effect-value f (Deliver p a b) = deliver-value f a b p
 effect-value f (Stop b) = refl
 effect-value f (Leave s) = refl
+effect-value f (Return b) = refl
 effect-value f Malformed = refl
 
 module _ (f : Floor) (c : Command) where
@@ -94,12 +95,12 @@ module _ (f : Floor) (c : Command) where
   pub apply-value : valueOf (applyOf f c .outcome) ≡ valueSaid f c
   apply-value = by-soundness (soundOf f) refl .1
 
--- a refused step has a number from 6 to 14
-pub refused-number : (f : Floor) (c : Command) → isRefused (applyOf f c .outcome) ≡ true → (6 ≤ numberOf (applyOf f c .outcome)) × (numberOf (applyOf f c .outcome) ≤ 14)
+-- a refused step has the number of a refusal
+pub refused-number : (f : Floor) (c : Command) → isRefused (applyOf f c .outcome) ≡ true → RefusalOfStep (numberOf (applyOf f c .outcome))
 refused-number f c e =
     let r = apply-refusal f c e in
     let n : numberOf (applyOf f c .outcome) ≡ r .number = ap (λ (s : Stepped). numberOf (s .outcome)) (r .is) in
-    (omega (arith, n, r .cause .least), omega (arith, n, r .cause .most))
+    subst RefusalOfStep (sym n) (r .cause .number)
 
 -- an accepted step on a sound floor has no refusal
 pub accepted-refusal : (f : Floor) (c : Command) → Sound f → isRefused (applyOf f c .outcome) ≡ false → refusalOn f c ≡ 0

@@ -12,7 +12,7 @@ use Rattle.commands.specs.declared.Command.{Command}
 use Rattle.floor.specs.Floors.{departmentAt}
 use Rattle.floor.specs.Effects.{rowTaken, shareAfter}
 use Rattle.floor.proofs.UseLaws.{share-own}
-use Rattle.floor.proofs.StepCases.{StepCase, turned, began, served, heard, issued, decided, aborted, stopped, left, apply-case}
+use Rattle.floor.proofs.StepCases.{StepCase, turned, began, served, heard, issued, decided, aborted, stopped, left, returned, apply-case}
 use Rattle.floor.proofs.Keeps.{row-stored, station-stored, owner-stored, box-stored, used-stored}
 
 meaning : {f : Floor} {c : Command} {s : Stepped} → Lengths f → StepCase f c s → Meaning f c (s .floor) (s .outcome)
@@ -70,6 +70,7 @@ meaning {f} y (aborted {p = p} {a = a} {b = b} z d r q t) = record {
 }
 meaning {f} y (stopped {b = b} z d) = record { command = refl; may = d; storage = box-stored f y z b _ (d .box) }
 meaning {f} y (left {s = s} z d) = record { command = refl; may = d; station = station-stored f y z s _ (d .station) }
+meaning {f} y (returned {b = b} z d) = record { command = refl; may = d; storage = box-stored f y z b _ (d .box) }
 
 pub apply-means : (f : Floor) (c : Command) → Lengths f → Meaning f c (applyOf f c .floor) (applyOf f c .outcome)
 apply-means f c y = meaning y (apply-case f c)

@@ -1,4 +1,4 @@
--- A step's refusal is 0 exactly where it passes each of its tests, and otherwise 7 to 14.
+-- A step's refusal is 0 exactly where it passes each of its tests, and otherwise 7 to 14 or 23.
 use Prim.Native.Nat.{ℕ, _<_, _≤_}
 use native.Mathlib.Omega.{arith}
 use mathlib.Core.Path.{_≡_, refl, sym}
@@ -9,11 +9,11 @@ use borrow.Author.Tests.{leb-false, lt-leb, ne-eqb}
 use Rattle.base.specs.Choice.{if_then_else_}
 use Rattle.base.proofs.Choices.{on-true, on-false, by-test, passed}
 use Rattle.requests.specs.declared.Phase.{Phase}
-use Rattle.floor.specs.Refusals.{beginRefusal, serveRefusal, deliverRefusal, stopRefusal, leaveRefusal, refusalOn}
-use Rattle.floor.specs.Claims.{CanBegin, CanServe, CanDeliver, CanStop, CanLeave}
+use Rattle.floor.specs.Refusals.{beginRefusal, serveRefusal, deliverRefusal, stopRefusal, leaveRefusal, returnRefusal, refusalOn}
+use Rattle.floor.specs.Claims.{CanBegin, CanServe, CanDeliver, CanStop, CanLeave, CanReturn, RefusalOfStep}
 use Rattle.floor.specs.declared.Floor.{Floor}
 use Rattle.commands.specs.declared.Command.{Command}
-use Rattle.commands.specs.declared.Command.the-variants.{Begin, Serve, Deliver, Stop, Leave, Malformed}
+use Rattle.commands.specs.declared.Command.the-variants.{Begin, Serve, Deliver, Stop, Leave, Return, Malformed}
 
 -- the last test, which has to hold
 met : (t : Bool) (k : ℕ) → (if t then 0 else k) ≡ 0 → 0 < k → t ≡ true
@@ -98,31 +98,39 @@ module _ (f : Floor) where
   unfolding leaveRefusal
   leave-holds s d = sym (on-false _ (lt-leb _ _ (d .station)) (on-false _ (d .here) refl))
 
--- 0, or a number from 7 to 14
+  pub return-means : (b : ℕ) → returnRefusal f b ≡ 0 → CanReturn f b
+  unfolding returnRefusal
+  return-means b e = let x₁ = passed _ _ _ e (omega arith) in record { box = leb-false _ _ (x₁ .0); away = met _ _ (x₁ .1) (omega arith) }
+
+  pub return-holds : (b : ℕ) → CanReturn f b → returnRefusal f b ≡ 0
+  unfolding returnRefusal
+  return-holds b d = sym (on-false _ (lt-leb _ _ (d .box)) (on-true _ (d .away) refl))
+
+-- 0, or the number of a refusal
 abbrev pub Numbered : ℕ → Type 0
-Numbered k = (k ≡ 0) ⊎ ((7 ≤ k) × (k ≤ 14))
+Numbered k = (k ≡ 0) ⊎ RefusalOfStep k
 
-or-else : (t : Bool) (k x : ℕ) → 7 ≤ k → k ≤ 14 → Numbered x → Numbered (if t then k else x)
-or-else t k x l h r = by-test Numbered t k x (λ _. inr (l, h)) (λ _. r)
+or-else : (t : Bool) (k x : ℕ) → 6 ≤ k → k ≤ 14 → Numbered x → Numbered (if t then k else x)
+or-else t k x l h r = by-test Numbered t k x (λ _. inr (inl (l, h))) (λ _. r)
 
-finally : (t : Bool) (k : ℕ) → 7 ≤ k → k ≤ 14 → Numbered (if t then 0 else k)
-finally t k l h = by-test Numbered t 0 k (λ _. inl refl) (λ _. inr (l, h))
+finally : (t : Bool) (k : ℕ) → RefusalOfStep k → Numbered (if t then 0 else k)
+finally t k h = by-test Numbered t 0 k (λ _. inl refl) (λ _. inr h)
 
 module _ (f : Floor) (p : Phase) (a b : ℕ) where
   serve-numbered : Numbered (serveRefusal f p a b)
   unfolding serveRefusal
   serve-numbered =
       or-else _ _ _ (omega arith) (omega arith) (or-else _ _ _ (omega arith) (omega arith) (or-else _ _ _ (omega arith) (omega arith)
-      (finally _ _ (omega arith) (omega arith))))
+      (finally _ _ (inl (omega arith, omega arith)))))
 
   deliver-numbered : Numbered (deliverRefusal f p a b)
   unfolding deliverRefusal
   deliver-numbered =
       or-else _ _ _ (omega arith) (omega arith) (or-else _ _ _ (omega arith) (omega arith) (or-else _ _ _ (omega arith) (omega arith)
-      (finally _ _ (omega arith) (omega arith))))
+      (finally _ _ (inl (omega arith, omega arith)))))
 
 pub refusal-numbered : (f : Floor) (c : Command) → Numbered (refusalOn f c)
-unfolding beginRefusal stopRefusal leaveRefusal
+unfolding beginRefusal stopRefusal leaveRefusal returnRefusal
 refusal-numbered f (Begin s round v) =
     or-else _ _ _ (omega arith) (omega arith) (or-else _ _ _ (omega arith) (omega arith) (or-else _ _ _ (omega arith) (omega arith)
     (or-else _ _ _ (omega arith) (omega arith) (or-else _ _ _ (omega arith) (omega arith) (or-else _ _ _ (omega arith) (omega arith)
@@ -131,4 +139,5 @@ refusal-numbered f (Serve p a b) = serve-numbered f p a b
 refusal-numbered f (Deliver p a b) = deliver-numbered f p a b
 refusal-numbered f (Stop b) = or-else _ _ _ (omega arith) (omega arith) (or-else _ _ _ (omega arith) (omega arith) (inl refl))
 refusal-numbered f (Leave s) = or-else _ _ _ (omega arith) (omega arith) (or-else _ _ _ (omega arith) (omega arith) (inl refl))
-refusal-numbered f Malformed = inr (omega arith, omega arith)
+refusal-numbered f (Return b) = or-else _ _ _ (omega arith) (omega arith) (finally _ _ (inr refl))
+refusal-numbered f Malformed = inr (inl (omega arith, omega arith))

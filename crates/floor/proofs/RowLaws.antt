@@ -29,7 +29,7 @@ use Rattle.requests.specs.declared.Phase.the-variants.{Read, Write}
 use Rattle.requests.specs.declared.Requests.{Requests}
 use Rattle.base.proofs.Cases.{clash}
 use Rattle.requests.proofs.Standings.{arrives-means}
-use Rattle.floor.proofs.StepCases.{StepCase, turned, began, served, heard, issued, decided, aborted, stopped, left, apply-case}
+use Rattle.floor.proofs.StepCases.{StepCase, turned, began, served, heard, issued, decided, aborted, stopped, left, returned, apply-case}
 use Rattle.floor.proofs.UseLaws.{share-own, share-other}
 use Rattle.floor.proofs.Moves.{apply-row}
 use Rattle.floor.proofs.Keeps.{begun-use, use-begun, taken-use, used-stored}
@@ -55,6 +55,7 @@ raised (decided z d r q t) e = inl refl
 raised (aborted z d r q t) e = inl refl
 raised (stopped z d) e = inl refl
 raised (left z d) e = inl refl
+raised (returned z d) e = inl refl
 
 -- what a department uses, and its highest rank begun, change at a begin of one of its stations only
 pub apply-share : (f : Floor) (c : Command) (d : Department) → (shareOf d (applyOf f c .floor) ≡ shareOf d f) ⊎ RaisesNow f d c (applyOf f c .outcome) (shareOf d (applyOf f c .floor))
@@ -71,6 +72,7 @@ still-used (decided z d r q t) a h = h
 still-used (aborted z d r q t) a h = h
 still-used (stopped z d) a h = h
 still-used (left z d) a h = h
+still-used (returned z d) a h = h
 
 pub used-stays : (f : Floor) (c : Command) (a : ℕ) → InUse f a → InUse (applyOf f c .floor) a
 used-stays f c = still-used (apply-case f c)
@@ -88,6 +90,7 @@ begun-in-use (decided z d r q t) a e = clash (ap isBegun e) refl
 begun-in-use (aborted z d r q t) a e = clash (ap isBegun e) refl
 begun-in-use (stopped z d) a e = clash (ap isBegun e) refl
 begun-in-use (left z d) a e = clash (ap isBegun e) refl
+begun-in-use (returned z d) a e = clash (ap isBegun e) refl
 
 pub apply-begun-use : (f : Floor) (c : Command) (a : ℕ) → applyOf f c .outcome ≡ Begun a → InUse (applyOf f c .floor) a
 apply-begun-use f c = begun-in-use (apply-case f c)
@@ -103,6 +106,7 @@ begin-said (decided z d r q t) n = refl
 begin-said (aborted z d r q t) n = refl
 begin-said (stopped z d) n = refl
 begin-said (left z d) n = refl
+begin-said (returned z d) n = refl
 
 pub apply-not-begun : (f : Floor) (c : Command) → ((t round v : ℕ) → ¬ (c ≡ Begin t round v)) → (a : ℕ) → ¬ (applyOf f c .outcome ≡ Begun a)
 apply-not-begun f c n a e = clash (ap isBegun e) (begin-said (apply-case f c) n)
@@ -121,6 +125,7 @@ in-use (decided z d r q t) a h = inr (h, λ e. clash (ap isBegun e) refl)
 in-use (aborted z d r q t) a h = inr (h, λ e. clash (ap isBegun e) refl)
 in-use (stopped z d) a h = inr (h, λ e. clash (ap isBegun e) refl)
 in-use (left z d) a h = inr (h, λ e. clash (ap isBegun e) refl)
+in-use (returned z d) a h = inr (h, λ e. clash (ap isBegun e) refl)
 
 pub apply-in-use : (f : Floor) (c : Command) (a : ℕ) → InUse (applyOf f c .floor) a → (applyOf f c .outcome ≡ Begun a) ⊎ (InUse f a × (¬ (applyOf f c .outcome ≡ Begun a)))
 apply-in-use f c = in-use (apply-case f c)

@@ -34,7 +34,7 @@ use Rattle.floor.specs.declared.Floor.{Floor}
 use Rattle.floor.specs.declared.Until.{Until}
 use Rattle.floor.specs.declared.Until.the-variants.{Refusal, End}
 use Rattle.floor.specs.declared.Ran.{Ran}
-use Rattle.floor.proofs.Joins.{stepDepartment, partsAt, storedAt, rowPlace, boxPlace, stationPlace, look, put, Joined, change-join}
+use Rattle.floor.proofs.Joins.{stepDepartment, partsAt, storedAt, rowPlace, stationPlace, look, put, Joined, change-join}
 use Rattle.floor.proofs.Keeps.{refused-same, apply-keeps}
 
 -- a run ends behind a refused step

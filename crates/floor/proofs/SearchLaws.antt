@@ -8,7 +8,7 @@ use lib.Dec.{ltb}
 use Rattle.base.proofs.Cases.{by-cases}
 use Rattle.base.proofs.Choices.{on-true, on-false}
 use Rattle.commands.specs.declared.Command.{Command}
-use Rattle.commands.specs.declared.Command.the-variants.{Begin, Serve, Deliver, Stop, Leave, Malformed}
+use Rattle.commands.specs.declared.Command.the-variants.{Begin, Serve, Deliver, Stop, Leave, Return, Malformed}
 use Rattle.register.specs.declared.Department.{Department}
 use Rattle.attempts.specs.Rows.{firstRow}
 use Rattle.attempts.specs.declared.State.{State}
@@ -27,7 +27,7 @@ module _ (f : Floor) (d : Department) where
   none-found = refl
 
   pub found-more : (k a : ℕ) (x y : Lowest) (w : Row) (state : State) → a ≡ firstRow d + k → x ≡ freeBelow f d k → w ≡ rowAt f a → state ≡ ownerAt f a .state
-      → y ≡ betterIn x w state (f .boxes) (f .n) a → y ≡ freeBelow f d (k + 1)
+      → y ≡ betterIn x w state (f .n) a → y ≡ freeBelow f d (k + 1)
   unfolding freeBelow
   found-more k a x y w state ea ex ew es ey = ey ∙ rw (ex, ew, es, ea, add-one) refl
 
@@ -68,6 +68,7 @@ module _ (f : Floor) (d : Department) where
   starts (Deliver p a b) x e = none-taken (Deliver p a b) x e refl
   starts (Stop b) x e = none-taken (Stop b) x e refl
   starts (Leave s) x e = none-taken (Leave s) x e refl
+  starts (Return b) x e = none-taken (Return b) x e refl
   starts Malformed x e = none-taken Malformed x e refl
 
   first-least : (x : Lowest) → firstOf x ≤ 64
@@ -80,7 +81,7 @@ module _ (f : Floor) (d : Department) where
   looking-starts c k x ex ek = rw ek (first-least x, starts c x ex)
 
   pub looking-on : (c : Command) (k a : ℕ) (x y : Lowest) (w : Row) (state : State) → k < 64 → Looking f d c k x → a ≡ firstRow d + k → w ≡ rowAt f a → state ≡ ownerAt f a .state
-      → y ≡ betterIn x w state (f .boxes) (f .n) a → Looking f d c (k + 1) y
+      → y ≡ betterIn x w state (f .n) a → Looking f d c (k + 1) y
   looking-on c k a x y w state h (seeking u t e) ea ew es ey = seeking u t (found-more f d k a x y w state ea e ew es ey)
   looking-on c k a x y w state h (known l e) ea ew es ey = absurd (omega arith)
 

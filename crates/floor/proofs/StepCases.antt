@@ -1,4 +1,4 @@
--- What a step can be: turned back, or one of eight, each with the tests that it passed. A law of steps is then a function by cases.
+-- What a step can be: turned back, or one of nine, each with the tests that it passed. A law of steps is then a function by cases.
 use Prim.Native.Nat.{ℕ}
 use native.Mathlib.Omega.{arith}
 use mathlib.Core.Path.{_≡_, refl}
@@ -11,18 +11,18 @@ use Rattle.base.proofs.Choices.{by-test}
 use Rattle.floor.specs.Floors.{rowAt, ownerAt, withRow}
 use Rattle.attempts.specs.Stations.{isReading, isWriting, isIn}
 use Rattle.floor.specs.Sound.{soundOf}
-use Rattle.floor.specs.Claims.{Sound, CanBegin, CanServe, CanDeliver, CanStop, CanLeave, TurnedBack}
+use Rattle.floor.specs.Claims.{Sound, CanBegin, CanServe, CanDeliver, CanStop, CanLeave, CanReturn, TurnedBack}
 use Rattle.commands.specs.Commands.{commandOf}
 use Rattle.attempts.specs.Rows.{revisionOf, requestsHeard}
 use Rattle.floor.specs.Refusals.{refusalOn}
-use Rattle.floor.specs.Effects.{heardRow, stepped, rowTaken, afterBegin, afterServe, afterIssue, afterDecision, afterAbort, afterStop, afterLeave, heardOn, deliveredOn, effectOn}
+use Rattle.floor.specs.Effects.{heardRow, stepped, rowTaken, afterBegin, afterServe, afterIssue, afterDecision, afterAbort, afterStop, afterLeave, afterReturn, heardOn, deliveredOn, effectOn}
 use Rattle.commands.specs.Outcomes.{isRefused}
 use Rattle.floor.specs.Step.{refused, playOf, applyOf, stepOf}
 use Rattle.floor.specs.declared.Floor.{Floor}
 use Rattle.floor.specs.declared.Stepped.{Stepped}
 use Rattle.commands.specs.declared.Outcome.the-variants as said
 use Rattle.commands.specs.declared.Command.{Command}
-use Rattle.commands.specs.declared.Command.the-variants.{Begin, Serve, Deliver, Stop, Leave, Malformed}
+use Rattle.commands.specs.declared.Command.the-variants.{Begin, Serve, Deliver, Stop, Leave, Return, Malformed}
 use Rattle.floor.proofs.SoundLaws.{sound-means}
 use Rattle.requests.specs.Requests.{atQuorum, allYes}
 use Rattle.requests.specs.declared.Phase.{Phase}
@@ -30,7 +30,7 @@ use Rattle.requests.specs.declared.Phase.the-variants.{Read, Write}
 use Rattle.requests.specs.declared.Verdict.{Verdict}
 use Rattle.requests.proofs.RequestLaws.{Came, still, agreed, denied, verdict-came}
 use Rattle.base.proofs.Cases.{clash}
-use Rattle.floor.proofs.RefusalLaws.{begin-means, serve-means, deliver-means, stop-means, leave-means, refusal-numbered}
+use Rattle.floor.proofs.RefusalLaws.{begin-means, serve-means, deliver-means, stop-means, leave-means, return-means, refusal-numbered}
 
 pub data StepCase (f : Floor) : Command → Stepped → Type 0 where
   turned : {c : Command} (k : ℕ) → TurnedBack f c k → StepCase f c (refused f k)
@@ -50,6 +50,7 @@ pub data StepCase (f : Floor) : Command → Stepped → Type 0 where
       → StepCase f (Deliver p a b) (stepped (afterAbort f a (heardRow f p a b)) (said.Aborted a))
   stopped : {b : ℕ} → Sound f → CanStop f b → StepCase f (Stop b) (stepped (afterStop f b) (said.Stopped b))
   left : {s : ℕ} → Sound f → CanLeave f s → StepCase f (Leave s) (stepped (afterLeave f s) (said.Gone s))
+  returned : {b : ℕ} → Sound f → CanReturn f b → StepCase f (Return b) (stepped (afterReturn f b) (said.Back b))
 
 -- an accepted step of each kind on a sound floor
 module _ (f : Floor) (z : Sound f) where
@@ -75,6 +76,7 @@ module _ (f : Floor) (z : Sound f) where
   accepted-case (Deliver p a b) e = deliver-case a b p (deliver-means f p a b e)
   accepted-case (Stop b) e = stopped z (stop-means f b e)
   accepted-case (Leave s) e = left z (leave-means f s e)
+  accepted-case (Return b) e = returned z (return-means f b e)
   accepted-case Malformed e = absurd (omega (arith, e))
 
 pub apply-case : (f : Floor) (c : Command) → StepCase f c (applyOf f c)
@@ -84,9 +86,9 @@ apply-case f c =
     (λ e. by-test P (eqb (refusalOn f c) 0) _ _ (λ q. accepted-case f (sound-means f e) c (eqb-true _ _ q))
     (λ q. turned (refusalOn f c) (elim (refusal-numbered f c) [
       | inl h ↦ absurd (eqb-false _ _ q h)
-      | inr h ↦ record { least = omega (arith, h .0); most = h .1; cause = inr (e, refl) }
+      | inr h ↦ record { number = h; cause = inr (e, refl) }
     ])))
-    (λ e. turned 6 (record { least = omega arith; most = omega arith; cause = inl (e, refl) }))
+    (λ e. turned 6 (record { number = inl (omega arith, omega arith); cause = inl (e, refl) }))
   where
     P : Stepped → Type 0
     P = StepCase f c
@@ -107,6 +109,7 @@ refusal (decided z d r q t) e = clash e refl
 refusal (aborted z d r q t) e = clash e refl
 refusal (stopped z d) e = clash e refl
 refusal (left z d) e = clash e refl
+refusal (returned z d) e = clash e refl
 
 pub apply-refusal : (f : Floor) (c : Command) → isRefused (applyOf f c .outcome) ≡ true → Refusal f c (applyOf f c)
 apply-refusal f c = refusal (apply-case f c)

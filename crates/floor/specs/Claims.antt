@@ -2,7 +2,7 @@
 use Prim.Native.Nat.{ℕ, suc, _+_, _%_, _<_, _≤_}
 use mathlib.Core.Path.{_≡_}
 use mathlib.Core.Logic.{_⊎_}
-use mathlib.Core.Bool.{true, false}
+use mathlib.Core.Bool.{Bool, true, false}
 use mathlib.Core.List.{List, _∷_}
 use lib.ListN.{length}
 use Rattle.base.specs.Records.{recordsIn}
@@ -17,9 +17,9 @@ use Rattle.requests.specs.declared.Phase.the-variants.{Read, Write}
 use Rattle.commands.specs.Commands.{commandOf}
 use Rattle.commands.specs.Outcomes.{numberOf, valueOf, isRefused}
 use Rattle.commands.specs.declared.Command.{Command}
-use Rattle.commands.specs.declared.Command.the-variants.{Begin, Serve, Deliver, Stop, Leave}
+use Rattle.commands.specs.declared.Command.the-variants.{Begin, Serve, Deliver, Stop, Leave, Return}
 use Rattle.commands.specs.declared.Outcome.{Outcome}
-use Rattle.commands.specs.declared.Outcome.the-variants.{Begun, Served, Received, Aborted, WriteIssued, Decided, Stopped, Gone, Refused}
+use Rattle.commands.specs.declared.Outcome.the-variants.{Begun, Served, Received, Aborted, WriteIssued, Decided, Stopped, Gone, Back, Refused}
 use Rattle.attempts.specs.Stations.{isGone, isBusy, isReading, isWriting, isActive, isIn, withState}
 use Rattle.attempts.specs.Rows.{rowDepartment, requestsOf, newRow, revisionOf, rowServed, registerServed, requestsHeard}
 use Rattle.attempts.specs.Rows as rows
@@ -32,7 +32,7 @@ use Rattle.floor.specs.Floors.{boxAt, stationAt, rowAt, ownerAt, registe
 use Rattle.floor.specs.Sound.{soundOf}
 use Rattle.floor.specs.Refusals.{refusalOn}
 use Rattle.floor.specs.Free.{isFree, nextRow}
-use Rattle.floor.specs.Effects.{heardRow, rowTaken, beginner, shareAfter, servedBy, decider, stopped}
+use Rattle.floor.specs.Effects.{heardRow, rowTaken, beginner, shareAfter, servedBy, decider, withAway}
 use Rattle.floor.specs.Step.{stepOf, refusalOf, valueSaid}
 use Rattle.floor.specs.Runs.{floorAt, saidAt, stopsAt, runOf, playedOn, playedIn}
 use Rattle.floor.specs.declared.Share.{Share}
@@ -93,10 +93,17 @@ module _ (f : Floor) where
     pub station : s < f .m
     pub here : isGone (stationAt f s .state) ≡ false
 
+  pub record CanReturn (b : ℕ) : Type 0 where
+    pub box : b < f .n
+    pub away : boxAt f b .away ≡ true
+
+-- "Step: 6 to 14", and 23 (wish 8 of document 02)
+abbrev pub RefusalOfStep : ℕ → Type 0
+RefusalOfStep k = ((6 ≤ k) × (k ≤ 14)) ⊎ (k ≡ 23)
+
 -- A refusal's number and its cause.
 pub record TurnedBack (f : Floor) (c : Command) (k : ℕ) : Type 0 where
-  pub least : 6 ≤ k
-  pub most : k ≤ 14
+  pub number : RefusalOfStep k
   pub cause : ((soundOf f ≡ false) × (k ≡ 6)) ⊎ ((soundOf f ≡ true) × (k ≡ refusalOn f c))
 
 -- What each thing said means: the step with the command c led from the floor f to the floor g and said it. Of which command it came,
@@ -171,12 +178,17 @@ module _ (f : Floor) (c : Command) (g : Floor) where
   pub record StoppedBy (b : ℕ) : Type 0 where
     pub command : c ≡ Stop b
     pub may : CanStop f b
-    pub storage : boxAt g b ≡ stopped (boxAt f b)
+    pub storage : boxAt g b ≡ withAway true (boxAt f b)
 
   pub record GoneBy (s : ℕ) : Type 0 where
     pub command : c ≡ Leave s
     pub may : CanLeave f s
     pub station : stationAt g s ≡ withState (stationAt f s) state.Gone
+
+  pub record BackBy (b : ℕ) : Type 0 where
+    pub command : c ≡ Return b
+    pub may : CanReturn f b
+    pub storage : boxAt g b ≡ withAway false (boxAt f b)
 
   pub record RefusedBy (k : ℕ) : Type 0 where
     pub cause : TurnedBack f c k
@@ -191,6 +203,7 @@ module _ (f : Floor) (c : Command) (g : Floor) where
   Meaning (Decided v) = DecidedBy v
   Meaning (Stopped b) = StoppedBy b
   Meaning (Gone s) = GoneBy s
+  Meaning (Back b) = BackBy b
   Meaning (Refused k) = RefusedBy k
 
 -- What the step with the command c may do to a station, a box and a row of the floor f, seen at any one number j: nothing, or one of
@@ -214,7 +227,8 @@ module _ (f : Floor) (c : Command) (j : ℕ) where
     box-kept : {o : Outcome} → BoxMove o (boxAt f j)
     box-serves : {p : Phase} {a : ℕ} → c ≡ Serve p a j → InUse f a → boxAt f j .away ≡ false
         → BoxMove (Served a) (boxWith (rowDepartment a) (boxAt f j) (registerServed p (rowAt f a) (servedBy f a j)) (boxAt f j .away))
-    box-stops : c ≡ Stop j → boxAt f j .away ≡ false → BoxMove (Stopped j) (stopped (boxAt f j))
+    box-stops : c ≡ Stop j → boxAt f j .away ≡ false → BoxMove (Stopped j) (withAway true (boxAt f j))
+    box-returns : c ≡ Return j → boxAt f j .away ≡ true → BoxMove (Back j) (withAway false (boxAt f j))
 
   -- the row j after the step; an answer is received, whatever comes of it
   pub data RowMove : Outcome → Row → Type 0 where
@@ -279,10 +293,10 @@ pub record RaisesNow (f : Floor) (d : Department) (c : Command) (o : Outcome) (x
   pub of : departmentAt f station ≡ d
   pub share : x ≡ shareAfter f station round
 
--- Wish 5 of document 02: "Its row is free once it is over and its issued requests are served at every box not stopped."
+-- Wish 5 of document 02: "Its row is free once it is over and its issued requests are served", wish 8: "at every box, away or not"
 pub record Free (f : Floor) (a : ℕ) : Type 0 where
   pub over : isActive (ownerAt f a .state) a ≡ false
-  pub served : (b : ℕ) → b < f .n → boxAt f b .away ≡ false → (p : Phase) → isWaiting (standingOf (requestsOf p (rowAt f a)) b) ≡ false
+  pub served : (b : ℕ) → b < f .n → (p : Phase) → isWaiting (standingOf (requestsOf p (rowAt f a)) b) ≡ false
 
 -- "With all 64 used, begin takes the free row with the smallest rank, of equals the lowest"; with fewer it takes the next. Wish 6: among the
 -- rows of the department d.
@@ -294,12 +308,38 @@ pub data TakesRow (f : Floor) (d : Department) : ℕ → Type 0 where
       → TakesRow f d a
   none : 64 ≤ usedOf f d → ((c : ℕ) → rowDepartment c ≡ d → c < 128 → isFree f c ≡ false) → TakesRow f d 128
 
+-- the step that changes the record of the department d in the box b: a serve there
+pub record ServesNow (f : Floor) (d : Department) (c : Command) (b : ℕ) (o : Outcome) : Type 0 where
+  pub phase : Phase
+  pub attempt : ℕ
+  pub of : rowDepartment attempt ≡ d
+  pub command : c ≡ Serve phase attempt b
+  pub not-away : boxAt f b .away ≡ false
+  pub outcome : o ≡ Served attempt
+
+-- Wish 8: "Requests waiting there wait on". The request of that phase of the attempt a, which is begun, waits at the box b;
+pub record Waits (f : Floor) (p : Phase) (a b : ℕ) : Type 0 where
+  pub used : InUse f a
+  pub box : b < f .n
+  pub waits : isWaiting (standingOf (requestsOf p (rowAt f a)) b) ≡ true
+
+-- it waits on the floor g too, and is the same attempt's
+pub record WaitsOn (f g : Floor) (p : Phase) (a b : ℕ) : Type 0 where
+  pub waits : Waits g p a b
+  pub attempt : SameAttempt (rowAt f a) (rowAt g a)
+
+-- Whether the box b is away, before and after a step: "Kind 8 says stopped and kind 9 back, with the box", and nothing else moves it.
+pub data AwayMove (b : ℕ) : Outcome → Bool → Bool → Type 0 where
+  away-kept : {o : Outcome} {x : Bool} → ¬ (o ≡ Stopped b) → ¬ (o ≡ Back b) → AwayMove b o x x
+  away-put : AwayMove b (Stopped b) false true
+  away-brought : AwayMove b (Back b) true false
+
 -- What holds of every single step, accepted or refused, on any floor.
 pub record StepClaims : Type 0 where
-  -- "Floor, record and reply stay unchanged": a refused step hands back the very floor, and has a number from 6 to 14
+  -- "Floor, record and reply stay unchanged": a refused step hands back the very floor, and has one of these numbers
   pub refused-same : (f : Floor) (r : List ℕ) → isRefused (stepOf f r .outcome) ≡ true → stepOf f r .floor ≡ f
   pub refused-number : (f : Floor) (r : List ℕ) → isRefused (stepOf f r .outcome) ≡ true
-      → (6 ≤ numberOf (stepOf f r .outcome)) × (numberOf (stepOf f r .outcome) ≤ 14)
+      → RefusalOfStep (numberOf (stepOf f r .outcome))
   pub number : (f : Floor) (r : List ℕ) → numberOf (stepOf f r .outcome) ≡ refusalOf f (commandOf r)
   pub value : (f : Floor) (r : List ℕ) → valueOf (stepOf f r .outcome) ≡ valueSaid f (commandOf r)
   -- soundness, the sizes and the lengths of the arrays are kept; a new floor has them
@@ -316,8 +356,19 @@ pub record StepClaims : Type 0 where
   pub row : (f : Floor) (r : List ℕ) (j : ℕ) → RowMove f (commandOf r) j (stepOf f r .outcome) (rowAt (stepOf f r .floor) j)
   pub standing : (f : Floor) (r : List ℕ) → Sound f → Lengths f → (a : ℕ) → a < 128 → (p : Phase) (b : ℕ) → b < f .n
       → StandingMove f (commandOf r) a p b (stepOf f r .outcome) (standingOf (requestsOf p (rowAt f a)) b) (standingOf (requestsOf p (rowAt (stepOf f r .floor) a)) b)
-  -- "Stop box b, for good": a stopped box never changes again. "a station leaves for good": one that is gone stays gone
-  pub stopped-stays : (f : Floor) (r : List ℕ) (j : ℕ) → boxAt f j .away ≡ true → boxAt (stepOf f r .floor) j ≡ boxAt f j
+  -- a record of a box changes at a serve there only, of an attempt of its department, where the box is not away
+  pub record-from : (f : Floor) (r : List ℕ) (d : Department) (b : ℕ) → (registerAt (stepOf f r .floor) d b ≡ registerAt f d b) ⊎ ServesNow f d (commandOf r) b (stepOf f r .outcome)
+  -- a request waits until it is served there, whatever else happens; and a row of which a request waits, at whichever box, is given to no
+  -- other attempt
+  pub waits-until : (f : Floor) (r : List ℕ) → Sound f → Lengths f → (p : Phase) (a b : ℕ) → Waits f p a b
+      → WaitsOn f (stepOf f r .floor) p a b ⊎ ((commandOf r ≡ Serve p a b) × (stepOf f r .outcome ≡ Served a))
+  pub waits-keeps : (f : Floor) (r : List ℕ) → Lengths f → (p : Phase) (a b : ℕ) → Waits f p a b → ¬ (stepOf f r .outcome ≡ Begun a)
+  -- Wish 8: boxes "return with their records": a step, the one that brings it back too, changes no record of a box that is away; "Requests
+  -- waiting there wait on"; and what puts a box away and brings it back
+  pub away-keeps : (f : Floor) (r : List ℕ) (d : Department) (b : ℕ) → boxAt f b .away ≡ true → registerAt (stepOf f r .floor) d b ≡ registerAt f d b
+  pub away-waits : (f : Floor) (r : List ℕ) → Sound f → Lengths f → (p : Phase) (a b : ℕ) → boxAt f b .away ≡ true → Waits f p a b → WaitsOn f (stepOf f r .floor) p a b
+  pub away-moves : (f : Floor) (r : List ℕ) → Lengths f → (b : ℕ) → AwayMove b (stepOf f r .outcome) (boxAt f b .away) (boxAt (stepOf f r .floor) b .away)
+  -- "a station leaves for good": one that is gone stays gone
   pub gone-stays : (f : Floor) (r : List ℕ) (j : ℕ) → isGone (stationAt f j .state) ≡ true → isGone (stationAt (stepOf f r .floor) j .state) ≡ true
   -- a box's ranks never fall, and each is its old one or that of a row in use, department by department
   pub grown : (f : Floor) (r : List ℕ) (d : Department) (j : ℕ) → Grown f d (registerAt f d j) (registerAt (stepOf f r .floor) d j)

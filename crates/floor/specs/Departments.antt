@@ -8,20 +8,22 @@ use Rattle.register.specs.Register.{isOf}
 use Rattle.register.specs.declared.Department.{Department}
 use Rattle.commands.specs.Commands.{commandOf}
 use Rattle.commands.specs.declared.Command.{Command}
-use Rattle.commands.specs.declared.Command.the-variants.{Begin, Serve, Deliver, Stop, Leave, Malformed}
+use Rattle.commands.specs.declared.Command.the-variants.{Begin, Serve, Deliver, Stop, Leave, Return, Malformed}
 use Rattle.attempts.specs.Rows.{rowDepartment}
 use Rattle.floor.specs.Floors.{stationAt, rowAt, registerAt, departmentAt, shareOf, InUse, newFloorOf}
 use Rattle.floor.specs.Step.{stepOf}
 use Rattle.floor.specs.Claims.{Lengths}
 use Rattle.floor.specs.declared.Floor.{Floor}
 
--- "A serve or delivery belongs to its row's department", a begin and a going to the station's; "Only box stops, n and m are shared"
+-- "A serve or delivery belongs to its row's department", a begin and a going to the station's; "Only box stops, n and m are shared", wish
+-- 8: kinds 8 and 9 "shared as kind 6"
 abbrev pub belongs : (f : Floor) (d : Department) (c : Command) → Bool
 belongs f d (Begin s round v) = isOf d (departmentAt f s)
 belongs f d (Serve p a b) = isOf d (rowDepartment a)
 belongs f d (Deliver p a b) = isOf d (rowDepartment a)
 belongs f d (Stop b) = false
 belongs f d (Leave s) = isOf d (departmentAt f s)
+belongs f d (Return b) = false
 belongs f d Malformed = false
 
 -- the floor g has of the department d what f has: "each step of the other is answered as before, with the same records"

@@ -1,6 +1,6 @@
--- Document 01, "Steps", and wishes 2, 5, 6 and 7 of document 02: the floor that an accepted step leads to, and what came of it.
+-- Document 01, "Steps", and wishes 2, 5, 6, 7 and 8 of document 02: the floor that an accepted step leads to, and what came of it.
 use Prim.Native.Nat.{ℕ, max}
-use mathlib.Core.Bool.{true}
+use mathlib.Core.Bool.{Bool, true, false}
 use Rattle.base.specs.Choice.{if_then_else_}
 use Rattle.base.specs.Numbers.{rankOf}
 use Rattle.register.specs.declared.Register.{Register}
@@ -10,7 +10,7 @@ use Rattle.requests.specs.declared.Phase.{Phase}
 use Rattle.requests.specs.declared.Verdict.{Verdict}
 use Rattle.requests.specs.declared.Verdict.the-variants.{Open, Yes, No}
 use Rattle.commands.specs.declared.Command.{Command}
-use Rattle.commands.specs.declared.Command.the-variants.{Begin, Serve, Deliver, Stop, Leave, Malformed}
+use Rattle.commands.specs.declared.Command.the-variants.{Begin, Serve, Deliver, Stop, Leave, Return, Malformed}
 use Rattle.commands.specs.declared.Outcome.{Outcome}
 use Rattle.commands.specs.declared.Outcome.the-variants as said
 use Rattle.attempts.specs.Stations.{withState, isIn}
@@ -111,12 +111,18 @@ deliveredOn f phase a b =
     if isIn phase (ownerAt f a .state) a then heardOn f phase a b (verdictOn f phase a b)
     else receivedOn f phase a b
 
--- "6 Stop box b, for good." Wish 6: "Only box stops, n and m are shared."
-abbrev pub stopped : (x : StorageBox) → StorageBox
-stopped x = record { sails = x .sails; canvas = x .canvas; away = true }
+-- Wish 8: "Our boxes lose power and return with their records": both records of the box x stay, whether it is away or not
+abbrev pub withAway : (away : Bool) (x : StorageBox) → StorageBox
+withAway away x = record { sails = x .sails; canvas = x .canvas; away = away }
 
+-- "6 Stop box b", wish 8: no longer "for good". "Kind 8 puts a box away", "Kind 6 is read as kind 8", "Requests waiting there wait on": no
+-- row changes. "both .. shared as kind 6"
 abbrev pub afterStop : (f : Floor) (b : ℕ) → Floor
-afterStop f b = withBox f b (stopped (boxAt f b))
+afterStop f b = withBox f b (withAway true (boxAt f b))
+
+-- "kind 9 brings it back"
+abbrev pub afterReturn : (f : Floor) (b : ℕ) → Floor
+afterReturn f b = withBox f b (withAway false (boxAt f b))
 
 -- "7 Gone: a station leaves for good."
 abbrev pub afterLeave : (f : Floor) (s : ℕ) → Floor
@@ -129,10 +135,11 @@ effectOn f (Serve p a b) = stepped (afterServe f p a b) (said.Served a)
 effectOn f (Deliver p a b) = deliveredOn f p a b
 effectOn f (Stop b) = stepped (afterStop f b) (said.Stopped b)
 effectOn f (Leave s) = stepped (afterLeave f s) (said.Gone s)
+effectOn f (Return b) = stepped (afterReturn f b) (said.Back b)
 effectOn f Malformed = stepped f (said.Refused 7)
 
 -- Document 01's value of what an accepted step says: "begun, served, received or aborted with the attempt; write issued or decided with
--- the revision; stopped with the box; gone with the station"
+-- the revision; stopped with the box; gone with the station". Wish 8: "Kind 8 says stopped and kind 9 back, with the box."
 abbrev pub heardValue : (f : Floor) (phase : Phase) (a b : ℕ) (v : Verdict) → ℕ
 heardValue f phase a b Open = a
 heardValue f phase a b Yes = ofPhase phase (revisionOf (heardRow f phase a b) (f .n)) (heardRow f phase a b .written)
@@ -148,4 +155,5 @@ valueOn f (Serve p a b) = a
 valueOn f (Deliver p a b) = deliveredValue f p a b
 valueOn f (Stop b) = b
 valueOn f (Leave s) = s
+valueOn f (Return b) = b
 valueOn f Malformed = 0

@@ -1,15 +1,11 @@
 -- Document 02, wishes 5 and 6: when a row is free, and the row that a begin takes in its department.
 use Prim.Native.Nat.{ℕ, zero, suc, _+_}
-use mathlib.Core.List.{List}
 use mathlib.Core.Bool.{Bool, true, false}
-use lib.ListN.{getD}
 use lib.Dec.{ltb}
 use Rattle.base.specs.Choice.{if_then_else_}
-use Rattle.register.specs.Register.{box0}
 use Rattle.register.specs.declared.Department.{Department}
-use Rattle.register.specs.declared.StorageBox.{StorageBox}
 use Rattle.commands.specs.declared.Command.{Command}
-use Rattle.commands.specs.declared.Command.the-variants.{Begin, Serve, Deliver, Stop, Leave, Malformed}
+use Rattle.commands.specs.declared.Command.the-variants.{Begin, Serve, Deliver, Stop, Leave, Return, Malformed}
 use Rattle.attempts.specs.Stations.{isActive}
 use Rattle.attempts.specs.Rows.{firstRow, waitsAt}
 use Rattle.attempts.specs.declared.State.{State}
@@ -18,32 +14,32 @@ use Rattle.floor.specs.Floors.{rowAt, ownerAt, usedOf, endOf}
 use Rattle.floor.specs.declared.Floor.{Floor}
 use Rattle.floor.specs.declared.free.Lowest.{Lowest}
 
--- one box more, if it has not stopped
-unfoldable pub stillServed : (before stopped waits : Bool) → Bool
-stillServed before stopped waits = if stopped then before else (if waits then false else before)
+-- one box more
+unfoldable pub stillServed : (before waits : Bool) → Bool
+stillServed before waits = if waits then false else before
 
--- "its issued requests are served at every box not stopped": at none of the first k boxes that has not stopped one of them waits
-unfoldable pub allServed : (w : Row) (boxes : List StorageBox) (k : ℕ) → Bool
-allServed w boxes zero = true
-allServed w boxes (suc k) = stillServed (allServed w boxes k) (getD boxes k box0 .away) (waitsAt w k)
+-- Wish 8: "served at every box, away or not": at none of the first k boxes one of the issued requests waits
+unfoldable pub allServed : (w : Row) (k : ℕ) → Bool
+allServed w zero = true
+allServed w (suc k) = stillServed (allServed w k) (waitsAt w k)
 
--- "An attempt is over when its station no longer reads or writes in it: decided, aborted or gone. Its row is free once it is over and
--- its issued requests are served at every box not stopped." The row w of the attempt a, whose station is in that state.
-unfoldable pub freeIn : (w : Row) (state : State) (boxes : List StorageBox) (n a : ℕ) → Bool
-freeIn w state boxes n a = if isActive state a then false else allServed w boxes n
+-- Wish 5: "An attempt is over when its station no longer reads or writes in it: decided, aborted or gone." Wish 8: "Rows are now free only
+-- when served at every box, away or not." The row w of the attempt a, whose station is in that state.
+unfoldable pub freeIn : (w : Row) (state : State) (n a : ℕ) → Bool
+freeIn w state n a = if isActive state a then false else allServed w n
 
 -- the row a of a floor
 abbrev pub isFree : (f : Floor) (a : ℕ) → Bool
-isFree f a = freeIn (rowAt f a) (ownerAt f a .state) (f .boxes) (f .n) a
+isFree f a = freeIn (rowAt f a) (ownerAt f a .state) (f .n) a
 
 -- the rank is smaller than that of the row found so far, or none was found
 unfoldable pub lowerIn : (x : Lowest) (rank : ℕ) → Bool
 lowerIn x rank = if ltb (x .row) 128 then ltb rank (x .rank) else true
 
 -- the better of the row found so far and the row a: that, if it is free and its rank is smaller
-unfoldable pub betterIn : (x : Lowest) (w : Row) (state : State) (boxes : List StorageBox) (n a : ℕ) → Lowest
-betterIn x w state boxes n a =
-    if lowerIn x (w .rank) then (if freeIn w state boxes n a then record { row = a; rank = w .rank } else x)
+unfoldable pub betterIn : (x : Lowest) (w : Row) (state : State) (n a : ℕ) → Lowest
+betterIn x w state n a =
+    if lowerIn x (w .rank) then (if freeIn w state n a then record { row = a; rank = w .rank } else x)
     else x
 
 -- none was found
@@ -55,7 +51,7 @@ noRow = record { row = 128; rank = 0 }
 unfoldable pub freeBelow : (f : Floor) (department : Department) (k : ℕ) → Lowest
 freeBelow f department zero = noRow
 freeBelow f department (suc k) =
-    betterIn (freeBelow f department k) (rowAt f (firstRow department + k)) (ownerAt f (firstRow department + k) .state) (f .boxes) (f .n)
+    betterIn (freeBelow f department k) (rowAt f (firstRow department + k)) (ownerAt f (firstRow department + k) .state) (f .n)
     (firstRow department + k)
 
 -- the row that a begin of the department takes: the next, and "With all 64 used .. the free row with the smallest rank"; 128 where no row is
@@ -70,6 +66,7 @@ takenBy f department (Serve p a b) = 0
 takenBy f department (Deliver p a b) = 0
 takenBy f department (Stop b) = 0
 takenBy f department (Leave s) = 0
+takenBy f department (Return b) = 0
 takenBy f department Malformed = 0
 
 -- and only one with all 64 used has to look for it: it looks at each row of the department, from its first on
@@ -79,6 +76,7 @@ startOf first used (Serve p a b) = record { row = 0; rank = 0 }
 startOf first used (Deliver p a b) = record { row = 0; rank = 0 }
 startOf first used (Stop b) = record { row = 0; rank = 0 }
 startOf first used (Leave s) = record { row = 0; rank = 0 }
+startOf first used (Return b) = record { row = 0; rank = 0 }
 startOf first used Malformed = record { row = 0; rank = 0 }
 
 unfoldable pub firstOf : (x : Lowest) → ℕ

@@ -1,12 +1,12 @@
--- Document 01, "Turned back, in checking order": refusals 7 to 14 of a step on a sound floor, 0 where it is accepted.
--- The first that applies is given.
+-- Document 01, "Turned back, in checking order", and wish 8 of document 02: refusals 7 to 14, and 23 behind 13, of a step on a sound floor, 0
+-- where it is accepted. The first that applies is given.
 use Prim.Native.Nat.{ℕ}
 use lib.Dec.{eqb, leb}
 use Rattle.base.specs.Choice.{if_then_else_}
 use Rattle.requests.specs.Requests.{standingOf, isWaiting, isOnTheWay}
 use Rattle.requests.specs.declared.Phase.{Phase}
 use Rattle.commands.specs.declared.Command.{Command}
-use Rattle.commands.specs.declared.Command.the-variants.{Begin, Serve, Deliver, Stop, Leave, Malformed}
+use Rattle.commands.specs.declared.Command.the-variants.{Begin, Serve, Deliver, Stop, Leave, Return, Malformed}
 use Rattle.attempts.specs.Stations.{isGone, isBusy}
 use Rattle.attempts.specs.Rows.{rowDepartment, requestsOf}
 use Rattle.floor.specs.Floors.{boxAt, stationAt, rowAt, ownerAt, departmentAt, endOf}
@@ -25,7 +25,7 @@ beginRefusal f station round =
     else if leb 128 (nextRow f (departmentAt f station)) then 12
     else 0
 
--- 8 (attempt, box), 13, 14, of a read or a write. Wish 6: an attempt not begun in its own department
+-- 8 (attempt, box), 13, 14, of a read or a write. Wish 6: an attempt not begun in its own department. Wish 8: 13 is for a box that is away
 unfoldable pub serveRefusal : (f : Floor) (phase : Phase) (attempt box : ℕ) → ℕ
 serveRefusal f phase attempt box =
     if leb (endOf f (rowDepartment attempt)) attempt then 8
@@ -43,7 +43,7 @@ deliverRefusal f phase attempt box =
     else if isOnTheWay (standingOf (requestsOf phase (rowAt f attempt)) box) then 0
     else 14
 
--- 8, 13
+-- 8, 13. Wish 8: at a box that is away
 unfoldable pub stopRefusal : (f : Floor) (box : ℕ) → ℕ
 stopRefusal f box =
     if leb (f .n) box then 8
@@ -57,6 +57,13 @@ leaveRefusal f station =
     else if isGone (stationAt f station .state) then 9
     else 0
 
+-- 8, 23. Wish 8: "23, after 13, for bringing back a box that is not away"
+unfoldable pub returnRefusal : (f : Floor) (box : ℕ) → ℕ
+returnRefusal f box =
+    if leb (f .n) box then 8
+    else if boxAt f box .away then 0
+    else 23
+
 -- 7 before all
 abbrev pub refusalOn : (f : Floor) (c : Command) → ℕ
 refusalOn f (Begin s round v) = beginRefusal f s round
@@ -64,4 +71,5 @@ refusalOn f (Serve p a b) = serveRefusal f p a b
 refusalOn f (Deliver p a b) = deliverRefusal f p a b
 refusalOn f (Stop b) = stopRefusal f b
 refusalOn f (Leave s) = leaveRefusal f s
+refusalOn f (Return b) = returnRefusal f b
 refusalOn f Malformed = 7

@@ -1,4 +1,4 @@
-// Wishes 5 and 6 of document 02: when a row is free, and the row that a begin takes in its department. These are handed one row at a time: the loop that looks
+// Wishes 5, 6 and 8 of document 02: when a row is free, and the row that a begin takes in its department. These are handed one row at a time: the loop that looks
 // through the rows of a floor stands where the floor is, so that no floor is moved for it.
 ghost use mathlib.Core.Path.{_≡_};
 ghost use Prim.Native.Nat.{_≤_};
@@ -6,7 +6,6 @@ ghost use Rattle.floor.specs.Free.{stillServed, allServed, freeIn, lower
 use attempts::Row;
 use attempts::State;
 use commands::Command;
-use register::StorageBox;
 
 // The free row of the smallest rank found so far, and that rank; the row is 128 where none was found.
 pub struct Lowest {
@@ -14,44 +13,40 @@ pub struct Lowest {
     pub rank: u32,
 }
 
-// One box more, if it has not stopped.
-fn still_served(before: bool, away: bool, waits: bool) -> bool
-    ensures { λ r. ⌜ r ≡ stillServed before away waits ⌝ }
+// One box more.
+fn still_served(before: bool, waits: bool) -> bool
+    ensures { λ r. ⌜ r ≡ stillServed before waits ⌝ }
 {
-    if away {
-        return before;
-    }
     if waits {
         return false;
     }
     before
 }
 
-// At none of the first n boxes that has not stopped a request of the row waits.
-fn all_served(w: Row, boxes: [StorageBox; 9], n: u8) -> bool
+// At none of the first n boxes a request of the row waits.
+fn all_served(w: Row, n: u8) -> bool
     requires { ⌜ n ≤ 9 ⌝ }
-    ensures { λ r. ⌜ r ≡ allServed w boxes n ⌝ }
+    ensures { λ r. ⌜ r ≡ allServed w n ⌝ }
 {
     let mut ok = true;
     let mut k: u8 = 0;
     while k < n {
-        let x = boxes[k as usize];
         let waits = attempts::waits_at(w, k);
-        ok = still_served(ok, x.away, waits);
+        ok = still_served(ok, waits);
         k += 1;
     }
     ok
 }
 
-// The attempt is over, and its requests are served at every box not stopped; its station is in that state.
-fn free(w: Row, state: State, boxes: [StorageBox; 9], n: u8, a: u8) -> bool
+// The attempt is over, and its requests are served at every box, away or not; its station is in that state.
+fn free(w: Row, state: State, n: u8, a: u8) -> bool
     requires { ⌜ n ≤ 9 ⌝ }
-    ensures { λ r. ⌜ r ≡ freeIn w state boxes n a ⌝ }
+    ensures { λ r. ⌜ r ≡ freeIn w state n a ⌝ }
 {
     if attempts::active(state, a) {
         return false;
     }
-    all_served(w, boxes, n)
+    all_served(w, n)
 }
 
 // The rank is smaller than that of the row found so far, if there was one.
@@ -65,21 +60,14 @@ fn lower(x: Lowest, rank: u32) -> bool
 }
 
 // The better of the row found so far and the row a.
-pub(crate) fn better(
-    x: Lowest,
-    w: Row,
-    state: State,
-    boxes: [StorageBox; 9],
-    n: u8,
-    a: u8,
-) -> Lowest
+pub(crate) fn better(x: Lowest, w: Row, state: State, n: u8, a: u8) -> Lowest
     requires { ⌜ n ≤ 9 ⌝ }
-    ensures { λ r. ⌜ r ≡ betterIn x w state boxes n a ⌝ }
+    ensures { λ r. ⌜ r ≡ betterIn x w state n a ⌝ }
 {
     if !lower(x, w.rank) {
         return x;
     }
-    if free(w, state, boxes, n, a) {
+    if free(w, state, n, a) {
         return Lowest {
             row: a,
             rank: w.rank,
@@ -108,6 +96,7 @@ pub(crate) fn start(first: u8, used: u8, c: Command) -> Lowest
         Command::Deliver(_, _, _) => Lowest { row: 0, rank: 0 },
         Command::Stop(_) => Lowest { row: 0, rank: 0 },
         Command::Leave(_) => Lowest { row: 0, rank: 0 },
+        Command::Return(_) => Lowest { row: 0, rank: 0 },
         Command::Malformed => Lowest { row: 0, rank: 0 },
     }
 }

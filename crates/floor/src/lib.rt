@@ -275,8 +275,7 @@ fn next_sound(f: Floor, d: Department) -> u8
         let w = f.rows[a as usize];
         let owner = f.stations[w.station as usize];
         let state = owner.state;
-        let boxes = f.boxes;
-        found = free::better(found, w, state, boxes, f.n, a);
+        found = free::better(found, w, state, f.n, a);
         k += 1;
     }
     found.row
@@ -356,8 +355,7 @@ fn run_sound(mut f: Floor, first: Command, records: &[u8], until: Until) -> Ran
             let w = f.rows[a as usize];
             let owner = f.stations[w.station as usize];
             let state = owner.state;
-            let boxes = f.boxes;
-            found = free::better(found, w, state, boxes, f.n, a);
+            found = free::better(found, w, state, f.n, a);
             passed += 1;
         }
         let next = found.row;

@@ -2,7 +2,7 @@
 -- private contracts. No promise rests on this file: what a step is on a floor stands in crates/floor/specs, and crates/floor/proofs/Joins
 -- shows that on a sound floor the two are the same.
 use Prim.Native.Nat.{ℕ, _+_, max}
-use mathlib.Core.Bool.{Bool, true}
+use mathlib.Core.Bool.{Bool, true, false}
 use lib.Dec.{eqb, leb, ltb}
 use Rattle.base.specs.Choice.{if_then_else_}
 use Rattle.base.specs.Numbers.{rankOf}
@@ -13,7 +13,7 @@ use Rattle.requests.specs.declared.Phase.{Phase}
 use Rattle.requests.specs.declared.Verdict.{Verdict}
 use Rattle.requests.specs.declared.Verdict.the-variants.{Open, Yes, No}
 use Rattle.commands.specs.declared.Command.{Command}
-use Rattle.commands.specs.declared.Command.the-variants.{Begin, Serve, Deliver, Stop, Leave, Malformed}
+use Rattle.commands.specs.declared.Command.the-variants.{Begin, Serve, Deliver, Stop, Leave, Return, Malformed}
 use Rattle.commands.specs.declared.Outcome.the-variants as said
 use Rattle.attempts.specs.Stations.{isGone, isBusy, isIn, withState}
 use Rattle.attempts.specs.Rows.{rowDepartment, requestsOf, newRow, revisionOf, usedAfter, issued, rowServed, registerServed, requestsHeard, rowHeard}
@@ -36,6 +36,7 @@ attemptIn next (Serve p a b) = a
 attemptIn next (Deliver p a b) = a
 attemptIn next (Stop b) = 0
 attemptIn next (Leave s) = 0
+attemptIn next (Return b) = 0
 attemptIn next Malformed = 0
 
 abbrev pub boxIn : (c : Command) → ℕ
@@ -44,6 +45,7 @@ boxIn (Serve p a b) = b
 boxIn (Deliver p a b) = b
 boxIn (Stop b) = b
 boxIn (Leave s) = 0
+boxIn (Return b) = b
 boxIn Malformed = 0
 
 abbrev pub stationIn : (owner : ℕ) (c : Command) → ℕ
@@ -52,19 +54,21 @@ stationIn owner (Serve p a b) = owner
 stationIn owner (Deliver p a b) = owner
 stationIn owner (Stop b) = 0
 stationIn owner (Leave s) = s
+stationIn owner (Return b) = 0
 stationIn owner Malformed = 0
 
--- The department that the step belongs to, where the station that it names is of the department `own`. A stop and what is malformed belong
--- to none: one is named, and stored as it was.
+-- The department that the step belongs to, where the station that it names is of the department `own`. A stop, a return and what is malformed
+-- belong to none: one is named, and stored as it was.
 abbrev pub departmentIn : (own : Department) (c : Command) → Department
 departmentIn own (Begin s round v) = own
 departmentIn own (Serve p a b) = rowDepartment a
 departmentIn own (Deliver p a b) = rowDepartment a
 departmentIn own (Stop b) = own
 departmentIn own (Leave s) = own
+departmentIn own (Return b) = own
 departmentIn own Malformed = own
 
--- Refusals 7 to 14, 0 where the step is accepted.
+-- Refusals 7 to 14 and 23, 0 where the step is accepted.
 unfoldable pub beginIn : (x : Parts) (s round : ℕ) → ℕ
 beginIn x s round =
     if leb (x .m) s then 8
@@ -103,17 +107,24 @@ leaveIn x s =
     else if isGone (x .station .state) then 9
     else 0
 
+unfoldable pub returnIn : (x : Parts) (b : ℕ) → ℕ
+returnIn x b =
+    if leb (x .n) b then 8
+    else if x .away then 0
+    else 23
+
 abbrev pub refusalIn : (x : Parts) (c : Command) → ℕ
 refusalIn x (Begin s round v) = beginIn x s round
 refusalIn x (Serve p a b) = serveIn x p a b
 refusalIn x (Deliver p a b) = deliverIn x p a b
 refusalIn x (Stop b) = stopIn x b
 refusalIn x (Leave s) = leaveIn x s
+refusalIn x (Return b) = returnIn x b
 refusalIn x Malformed = 7
 
--- row, register, whether the box has stopped, and station replaced
-abbrev pub withParts : (x : Parts) (row : Row) (register : Register) (stopped : Bool) (station : Station) → Parts
-withParts x row register stopped station =
+-- row, register, whether the box is away, and station replaced
+abbrev pub withParts : (x : Parts) (row : Row) (register : Register) (away : Bool) (station : Station) → Parts
+withParts x row register away station =
     record {
       n = x .n;
       m = x .m;
@@ -123,7 +134,7 @@ withParts x row register stopped station =
       highest = x .highest;
       row = row;
       register = register;
-      away = stopped;
+      away = away;
       station = station;
     }
 
@@ -189,11 +200,10 @@ delivered x p a b =
     else receivedOnly x a (rowHeard p (x .row) b)
 
 abbrev pub stoppedBox : (x : Parts) (b : ℕ) → Changed
-stoppedBox x b =
-    record {
-      parts = withParts x (x .row) (x .register) true (x .station);
-      outcome = said.Stopped b;
-    }
+stoppedBox x b = record { parts = withParts x (x .row) (x .register) true (x .station); outcome = said.Stopped b }
+
+abbrev pub returnedBox : (x : Parts) (b : ℕ) → Changed
+returnedBox x b = record { parts = withParts x (x .row) (x .register) false (x .station); outcome = said.Back b }
 
 abbrev pub goneStation : (x : Parts) (s : ℕ) → Changed
 goneStation x s = record { parts = withParts x (x .row) (x .register) (x .away) (withState (x .station) state.Gone); outcome = said.Gone s }
@@ -207,6 +217,7 @@ effectIn x (Serve p a b) = served x p a b
 effectIn x (Deliver p a b) = delivered x p a b
 effectIn x (Stop b) = stoppedBox x b
 effectIn x (Leave s) = goneStation x s
+effectIn x (Return b) = returnedBox x b
 effectIn x Malformed = turnedBack x 7
 
 -- the step, refused or accepted

@@ -19,6 +19,7 @@ fn refusal(x: Parts, c: Command) -> u8
         Command::Deliver(p, a, b) => super::deliver::deliver_refusal(x, p, a, b),
         Command::Stop(b) => super::stop::stop_refusal(x, b),
         Command::Leave(s) => super::leave::leave_refusal(x, s),
+        Command::Return(b) => super::returns::return_refusal(x, b),
         Command::Malformed => 7,
     }
 }
@@ -34,6 +35,7 @@ fn effect(x: Parts, c: Command) -> Changed
         Command::Deliver(p, a, b) => super::deliver::deliver(x, p, a, b),
         Command::Stop(b) => super::stop::stop(x, b),
         Command::Leave(s) => super::leave::leave(x, s),
+        Command::Return(b) => super::returns::returned(x, b),
         Command::Malformed => Changed {
             parts: x,
             outcome: Outcome::Refused(7),

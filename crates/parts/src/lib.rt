@@ -11,6 +11,7 @@ mod deliver;
 mod kinds;
 mod leave;
 mod places;
+mod returns;
 mod serve;
 mod stop;
 

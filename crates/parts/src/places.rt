@@ -28,6 +28,7 @@ fn attempt_in(next: u8, c: Command) -> u8
         Command::Deliver(_, a, _) => a,
         Command::Stop(_) => 0,
         Command::Leave(_) => 0,
+        Command::Return(_) => 0,
         Command::Malformed => 0,
     }
 }
@@ -41,6 +42,7 @@ fn box_in(c: Command) -> u8
         Command::Deliver(_, _, b) => b,
         Command::Stop(b) => b,
         Command::Leave(_) => 0,
+        Command::Return(b) => b,
         Command::Malformed => 0,
     }
 }
@@ -54,6 +56,7 @@ fn station_in(owner: u8, c: Command) -> u8
         Command::Deliver(_, _, _) => owner,
         Command::Stop(_) => 0,
         Command::Leave(s) => s,
+        Command::Return(_) => 0,
         Command::Malformed => 0,
     }
 }
@@ -88,6 +91,7 @@ pub fn department_in(own: Department, c: Command) -> Department
         Command::Deliver(_, a, _) => attempts::department_of(a),
         Command::Stop(_) => own,
         Command::Leave(_) => own,
+        Command::Return(_) => own,
         Command::Malformed => own,
     }
 }

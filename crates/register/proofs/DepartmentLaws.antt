@@ -27,10 +27,14 @@ pub box-same : (d : Department) (x : StorageBox) → boxWith d x (registerOf d x
 box-same Sails x = refl
 box-same Canvas x = refl
 
--- and one that stops keeps both records, whichever department stores it
-pub stop-box : (d : Department) (x : StorageBox) → boxWith d x (registerOf d x) true ≡ record { sails = x .sails; canvas = x .canvas; away = true }
-stop-box Sails x = refl
-stop-box Canvas x = refl
+-- and one that is put away or brought back keeps both records, whichever department stores it
+pub box-moved : (d : Department) (x : StorageBox) (t : Bool) → boxWith d x (registerOf d x) t ≡ record { sails = x .sails; canvas = x .canvas; away = t }
+box-moved Sails x t = refl
+box-moved Canvas x t = refl
+
+pub register-moved : (d : Department) (x : StorageBox) (t : Bool) → registerOf d (record { sails = x .sails; canvas = x .canvas; away = t }) ≡ registerOf d x
+register-moved Sails x t = refl
+register-moved Canvas x t = refl
 
 pub is-same : (d e : Department) → isOf d e ≡ true → d ≡ e
 is-same Sails Sails h = refl

@@ -26,7 +26,8 @@ isOf Canvas Sails = false
 isOf Canvas Canvas = true
 
 -- "A box keeps a read rank, a write rank and a value, 32 bits each, all 0 at first, and whether it has stopped." Wish 6 of document 02:
--- "Each box keeps one record a department". It is also what a read past the end of an array gives by the language's own rule.
+-- "Each box keeps one record a department"; wish 8: whether it is away. It is also what a read past the end of an array gives by the
+-- language's own rule.
 abbrev pub register0 : Register
 register0 = record { read = 0; write = 0; value = 0 }
 
@@ -37,10 +38,10 @@ box0 = record { sails = register0; canvas = register0; away = false }
 abbrev pub registerOf : (department : Department) (x : StorageBox) → Register
 registerOf department x = ofDepartment department (x .sails) (x .canvas)
 
--- the box x with the record of the department and whether it has stopped replaced: the record of the other stays
-abbrev pub boxWith : (department : Department) (x : StorageBox) (register : Register) (stopped : Bool) → StorageBox
-boxWith department x register stopped =
-    record { sails = ofDepartment department register (x .sails); canvas = ofDepartment department (x .canvas) register; away = stopped }
+-- the box x with the record of the department and whether it is away replaced: the record of the other stays
+abbrev pub boxWith : (department : Department) (x : StorageBox) (register : Register) (away : Bool) → StorageBox
+boxWith department x register away =
+    record { sails = ofDepartment department register (x .sails); canvas = ofDepartment department (x .canvas) register; away = away }
 
 -- Wish 2: "A box with a read or write rank above r". Equal ranks are not above.
 unfoldable pub outranks : (x : Register) (rank : ℕ) → Bool

@@ -16,7 +16,7 @@ pub struct Register {
     pub value: u32,
 }
 
-// A box: a ranked register for each department, and whether it has stopped, which both share.
+// A box: a ranked register for each department, and whether it is away (wish 8 of document 02), which both share.
 pub struct StorageBox {
     pub sails: Register,
     pub canvas: Register,
@@ -51,7 +51,7 @@ pub fn register_of(x: StorageBox, d: Department) -> Register
     }
 }
 
-// The box with the department's register stored, and whether it has stopped; the other department's register stays.
+// The box with the department's register stored, and whether it is away; the other department's register stays.
 pub fn box_with(x: StorageBox, d: Department, register: Register, away: bool) -> StorageBox
     ensures { λ y. ⌜ y ≡ boxWith d x register away ⌝ }
 {

@@ -67,7 +67,7 @@ ownOf t = rowDepartment (t .number)
 abbrev pub heldBy : (t : Attempt) (x : StorageBox) → Register
 heldBy t x = registerOf (ownOf t) x
 
--- a box has stopped where it had; where the attempt's rank is the highest, the box has served no higher one, and from box p on it
+-- a box is away where it was; where the attempt's rank is the highest, the box has served no higher one, and from box p on it
 -- has not served the attempt's write
 pub record BoxOk (t : Attempt) (p j : ℕ) (x : StorageBox) : Type 0 where
   pub away : x .away ≡ getD (t .boxes) j box0 .away

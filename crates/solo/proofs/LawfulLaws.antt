@@ -23,7 +23,7 @@ use Rattle.floor.specs.Runs.{floorAt}
 use Rattle.base.proofs.Cases.{clash}
 use Rattle.base.proofs.Stores.{getD-same}
 use Rattle.base.specs.Claims.{Sizes}
-use Rattle.floor.proofs.StepCases.{StepCase, turned, began, served, heard, issued, decided, aborted, stopped, left, apply-case}
+use Rattle.floor.proofs.StepCases.{StepCase, turned, began, served, heard, issued, decided, aborted, stopped, left, returned, apply-case}
 use Rattle.floor.proofs.Keeps.{apply-keeps, apply-lengths, empty-sound, empty-lengths, empty-unused, told-at, new-floor-by, row-stored}
 use Rattle.floor.proofs.BoxLaws.{box-grown}
 use Rattle.floor.proofs.RowLaws.{apply-share, apply-in-use, row-same}
@@ -73,6 +73,7 @@ begun-rows y (decided z d r q t) a e = clash (ap isBegun e) refl
 begun-rows y (aborted z d r q t) a e = clash (ap isBegun e) refl
 begun-rows y (stopped z d) a e = clash (ap isBegun e) refl
 begun-rows y (left z d) a e = clash (ap isBegun e) refl
+begun-rows y (returned z d) a e = clash (ap isBegun e) refl
 
 module _ (f : Floor) (c : Command) where
   abbrev g : Floor

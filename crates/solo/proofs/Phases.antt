@@ -133,7 +133,7 @@ module _ (t : Attempt) (p k c b : ℕ) (l : p ≤ b) (h : b < t .n) (o : getD (t
       (step-last t (c + 1) (next Write r) _ (Deliver Write (t .number) b) _ (write-decides x h s q e) [] refl refl (rw n (has-decided _))))
       (λ e. stops Write r [] (verdict-no _ _ Write (full Write x h s q) e) e (λ u. rw n (has-aborted u)))
 
--- boxes in ascending order from p on that have not stopped
+-- boxes in ascending order from p on that are not away
 abbrev pub Ascending : Attempt → ℕ → List ℕ → Type 0
 Ascending t p [] = Unit {0}
 Ascending t p (b ∷ bs) = (p ≤ b) × (b < t .n) × (getD (t .boxes) b box0 .away ≡ false) × Ascending t (b + 1) bs

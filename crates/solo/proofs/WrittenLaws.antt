@@ -69,7 +69,7 @@ copied-two s l l' at r r' e e' =
 abbrev exchangesFrom : ℕ → ℕ → List StorageBox → Phase → ℕ → ℕ → List (List ℕ)
 exchangesFrom k b boxes p a q = exchanges p a (take q (answeringFrom k b boxes))
 
--- box b has stopped; an exchange is made with it; enough were made; no box is left
+-- box b is away; an exchange is made with it; enough were made; no box is left
 module _ (k b : ℕ) (boxes : List StorageBox) (p : Phase) (a : ℕ) where
   phase-skip : (q : ℕ) → getD boxes b box0 .away ≡ true → exchangesFrom (suc k) b boxes p a q ≡ exchangesFrom k (b + 1) boxes p a q
   phase-skip q e = rw (answering-skip k b boxes e)

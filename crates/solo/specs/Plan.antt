@@ -28,7 +28,8 @@ roundAbove h station = (h - station) / 16 + 1
 abbrev pub roundOf : (f : Floor) (station : ℕ) → ℕ
 roundOf f station = roundAbove (highestBegun f station) station
 
--- of k boxes from box b on, the numbers of those that have not stopped, in ascending order
+-- of k boxes from box b on, the numbers of those that are not away, in ascending order. Wish 8 of document 02:
+-- ""Answering" means not away"
 unfoldable pub answeringFrom : (k b : ℕ) (boxes : List StorageBox) → List ℕ
 answeringFrom zero b boxes = []
 answeringFrom (suc k) b boxes =

@@ -19,7 +19,7 @@ use Rattle.solo.specs.declared.Solo.{Solo}
 
 -- on a sound floor, where `round` is the round picked: 8, 9, 10, 11 ("for a solo finish, .. no round left"; "If that round exceeds 65,535
 -- there is no round left"; wish 7 of document 02: it "stop[s] looking at the revision"), 12 (wish 5: "no row unused or free", wish 6: in its
--- department), 15 ("A solo finish with fewer than q boxes not stopped"), 0 where none applies
+-- department), 15 ("A solo finish with fewer than q boxes not stopped", wish 8: not away), 0 where none applies
 unfoldable pub frontRefusal : (f : Floor) (station round : ℕ) → ℕ
 frontRefusal f station round =
     if leb (f .m) station then 8

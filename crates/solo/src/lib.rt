@@ -62,7 +62,7 @@ fn round_above(h: u32, s: u8) -> u32
     ((h - own) >> 4) + 1
 }
 
-// How many of the first n boxes have not stopped.
+// How many of the first n boxes are not away.
 fn count_answering(boxes: [StorageBox; 9], n: u8) -> u8
     requires { ⌜ n ≤ 9 ⌝ }
     ensures { λ r. ⌜ r ≡ length (answeringFrom n 0 boxes) ⌝ }
@@ -79,7 +79,7 @@ fn count_answering(boxes: [StorageBox; 9], n: u8) -> u8
     c
 }
 
-// Fewer than a quorum of the first n boxes have not stopped.
+// Fewer than a quorum of the first n boxes are not away.
 fn too_few(boxes: [StorageBox; 9], n: u8) -> bool
     requires { ⌜ n ≤ 9 ⌝ }
     ensures { λ r. ⌜ r ≡ ltb (length (answeringFrom n 0 boxes)) (quorum n) ⌝ }
@@ -140,7 +140,7 @@ fn put_exchange(out: &mut [u8], at: usize, p: Phase, a: u8, b: u8)
     put_record(out, at + 8, commands::encode(Command::Deliver(p, a, b)));
 }
 
-// The same for a phase: the exchanges of attempt a with the lowest-numbered of the first n boxes that have not stopped, a quorum of
+// The same for a phase: the exchanges of attempt a with the lowest-numbered of the first n boxes that are not away, a quorum of
 // them, one box after the other. It returns the place behind them.
 fn put_phase(out: &mut [u8], at: usize, boxes: [StorageBox; 9], n: u8, p: Phase, a: u8) -> usize
     requires { ⌜ (n ≤ 9) × (at + 16 * quorum n ≤ length (now out)) ⌝ }

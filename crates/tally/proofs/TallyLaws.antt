@@ -16,7 +16,7 @@ use Rattle.base.proofs.Choices.{on-true, on-false}
 use Rattle.register.specs.Register.{registerOf}
 use Rattle.register.specs.declared.Department.{Department}
 use Rattle.register.specs.declared.StorageBox.{StorageBox}
-use Rattle.tally.specs.Tally.{notStopped, highestWrite, tallyOf, oneMore}
+use Rattle.tally.specs.Tally.{notAway, highestWrite, tallyOf, oneMore}
 use Rattle.tally.specs.Claims.{Counts, TallyTheorem}
 use Rattle.tally.specs.declared.Tally.{Tally}
 
@@ -30,21 +30,21 @@ take-min {A = A} (suc n) (x ∷ l) = rw suc-min-suc (ap (λ (k : List A). x ∷ 
 module _ (d : Department) where
   -- a tally begins with 0 and 0
   pub tally-nil : tallyOf d [] ≡ record { count = 0; highest = 0 }
-  unfolding tallyOf notStopped highestWrite
+  unfolding tallyOf notAway highestWrite
   tally-nil = refl
 
-  -- one box more, at the front: a stopped one changes nothing, another is counted
-  pub tally-stopped : (b : StorageBox) (bs : List StorageBox) → b .away ≡ true → tallyOf d (b ∷ bs) ≡ tallyOf d bs
-  unfolding tallyOf notStopped if_then_else_
-  tally-stopped b bs e = rw e refl
+  -- one box more, at the front: one that is away changes nothing, another is counted
+  pub tally-away : (b : StorageBox) (bs : List StorageBox) → b .away ≡ true → tallyOf d (b ∷ bs) ≡ tallyOf d bs
+  unfolding tallyOf notAway if_then_else_
+  tally-away b bs e = rw e refl
 
   pub tally-going : (b : StorageBox) (bs : List StorageBox) → b .away ≡ false → tallyOf d (b ∷ bs) ≡ record { count = tallyOf d bs .count + 1; highest = max (tallyOf d bs .highest) (registerOf d b .write) }
-  unfolding tallyOf notStopped highestWrite if_then_else_
+  unfolding tallyOf notAway highestWrite if_then_else_
   tally-going b bs e = rw (e, add-one) refl
 
   cons-by : (s : Bool) (b : StorageBox) (bs : List StorageBox) → b .away ≡ s → tallyOf d (b ∷ bs) ≡ oneMore d b (tallyOf d bs)
   unfolding oneMore
-  cons-by true b bs e = on-true _ e (tally-stopped b bs e)
+  cons-by true b bs e = on-true _ e (tally-away b bs e)
   cons-by false b bs e = on-false _ e (tally-going b bs e)
 
   pub tally-cons : (b : StorageBox) (bs : List StorageBox) → tallyOf d (b ∷ bs) ≡ oneMore d b (tallyOf d bs)
@@ -62,7 +62,7 @@ module _ (d : Department) where
 
   -- no more are counted than there are
   count-by : (s : Bool) (b : StorageBox) (bs : List StorageBox) → b .away ≡ s → tallyOf d bs .count ≤ length bs → tallyOf d (b ∷ bs) .count ≤ length (b ∷ bs)
-  count-by true b bs e h = rw (tally-stopped b bs e) (omega (arith, h))
+  count-by true b bs e h = rw (tally-away b bs e) (omega (arith, h))
   count-by false b bs e h = rw (tally-going b bs e) (omega (arith, h))
 
   pub count-le : (bs : List StorageBox) → tallyOf d bs .count ≤ length bs
@@ -74,9 +74,9 @@ module _ (d : Department) where
   count-fits t bs e h = omega (arith, subst (λ (u : Tally). u .count ≤ length bs) (sym e) (count-le bs))
 
   -- ---- the tally as facts
-  -- no box that has not stopped has a higher write rank
+  -- no box that is not away has a higher write rank
   most-behind : (s : Bool) (b : StorageBox) (bs : List StorageBox) (r : ℕ) → b .away ≡ s → r ≤ tallyOf d bs .highest → r ≤ tallyOf d (b ∷ bs) .highest
-  most-behind true b bs r e h = rw (tally-stopped b bs e) h
+  most-behind true b bs r e h = rw (tally-away b bs e) h
   most-behind false b bs r e h = rw (tally-going b bs e) (le-trans h (le-max-left (tallyOf d bs .highest) (registerOf d b .write)))
 
   most : (bs : List StorageBox) (x : StorageBox) → List·Memᴰ x bs → x .away ≡ false → registerOf d x .write ≤ tallyOf d bs .highest
@@ -92,14 +92,14 @@ module _ (d : Department) where
 
   none-counted : (bs : List StorageBox) → tallyOf d bs .count ≡ 0 → tallyOf d bs .highest ≡ 0
   unfolding tallyOf
-  none-counted bs e = none-left (notStopped bs) e
+  none-counted bs e = none-left (notAway bs) e
 
-  -- where all have stopped none is counted
-  all-stopped : (bs : List StorageBox) → ((b : StorageBox) → List·Memᴰ b bs → b .away ≡ true) → tallyOf d bs .count ≡ 0
-  all-stopped [] h = ap (λ (t : Tally). t .count) tally-nil
-  all-stopped (b ∷ bs) h = ap (λ (t : Tally). t .count) (tally-stopped b bs (h b (List·Memᴰ·head refl))) ∙ all-stopped bs (λ x m. h x (List·Memᴰ·tail m))
+  -- where all are away none is counted
+  all-away : (bs : List StorageBox) → ((b : StorageBox) → List·Memᴰ b bs → b .away ≡ true) → tallyOf d bs .count ≡ 0
+  all-away [] h = ap (λ (t : Tally). t .count) tally-nil
+  all-away (b ∷ bs) h = ap (λ (t : Tally). t .count) (tally-away b bs (h b (List·Memᴰ·head refl))) ∙ all-away bs (λ x m. h x (List·Memᴰ·tail m))
 
-  -- some box that has not stopped has this write rank
+  -- some box that is not away has this write rank
   abbrev Reached : List StorageBox → ℕ → Type 0
   Reached bs r = (b : StorageBox) × (Counts bs b × (registerOf d b .write ≡ r))
 
@@ -123,7 +123,7 @@ module _ (d : Department) where
 
   reached-by : (s : Bool) (b : StorageBox) (bs : List StorageBox) → b .away ≡ s → (0 < tallyOf d bs .count → Reached bs (tallyOf d bs .highest))
       → 0 < tallyOf d (b ∷ bs) .count → Reached (b ∷ bs) (tallyOf d (b ∷ bs) .highest)
-  reached-by true b bs e k p = rw (tally-stopped b bs e) (reached-behind b bs (tallyOf d bs .highest) (k (subst (λ (t : Tally). 0 < t .count) (tally-stopped b bs e) p)))
+  reached-by true b bs e k p = rw (tally-away b bs e) (reached-behind b bs (tallyOf d bs .highest) (k (subst (λ (t : Tally). 0 < t .count) (tally-away b bs e) p)))
   reached-by false b bs e k p = rw (tally-going b bs e) (first-or-behind b bs (tallyOf d bs .highest) (ltb (registerOf d b .write) (tallyOf d bs .highest)) refl e (λ q. k (some-counted bs q)))
 
   reached : (bs : List StorageBox) → 0 < tallyOf d bs .count → Reached bs (tallyOf d bs .highest)
@@ -137,5 +137,5 @@ tallied d bs = record {
   count = refl;
   most = λ b c. most d bs b (c .member) (c .going);
   reached = reached d bs;
-  none = λ h. (all-stopped d bs h, none-counted d bs (all-stopped d bs h));
+  none = λ h. (all-away d bs h, none-counted d bs (all-away d bs h));
 }

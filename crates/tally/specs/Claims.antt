@@ -7,18 +7,18 @@ use lib.ListN.{length}
 use Rattle.register.specs.Register.{registerOf}
 use Rattle.register.specs.declared.Department.{Department}
 use Rattle.register.specs.declared.StorageBox.{StorageBox}
-use Rattle.tally.specs.Tally.{notStopped, tallyOf}
+use Rattle.tally.specs.Tally.{notAway, tallyOf}
 use Rattle.tally.specs.declared.Tally.{Tally}
 
--- a box of a run that has not stopped
+-- a box of a run that is not away
 pub record Counts (bs : List StorageBox) (b : StorageBox) : Type 0 where
   pub member : List·Memᴰ b bs
   pub going : b .away ≡ false
 
 -- the tally of a department as facts
 pub record Tallied (d : Department) (bs : List StorageBox) (t : Tally) : Type 0 where
-  -- "how many have not stopped"
-  pub count : t .count ≡ length (notStopped bs)
+  -- "how many have not stopped", wish 8: are not away
+  pub count : t .count ≡ length (notAway bs)
   -- "the highest write rank among those", of the department's records: none of them has a higher one, and one of them has it
   pub most : (b : StorageBox) → Counts bs b → registerOf d b .write ≤ t .highest
   pub reached : 0 < t .count → (b : StorageBox) × (Counts bs b × (registerOf d b .write ≡ t .highest))

@@ -1,6 +1,6 @@
 -- Document 01, "The box routine": "A tally takes a lent run of box records and returns how many have not stopped and the highest
 -- write rank among those; a run with none of these, or empty, gives 0 and 0." Wish 6 of document 02: "Each box keeps one record a
--- department, and the tally is told which."
+-- department, and the tally is told which." Wish 8: ""Answering" means not away, in the tally too."
 use Prim.Native.Nat.{ℕ, _+_, max}
 use mathlib.Core.List.{List, [], _∷_}
 use lib.ListN.{length}
@@ -10,10 +10,10 @@ use Rattle.register.specs.declared.Department.{Department}
 use Rattle.register.specs.declared.StorageBox.{StorageBox}
 use Rattle.tally.specs.declared.Tally.{Tally}
 
--- the boxes of a run that have not stopped, whichever the department. Wish 6: "Only box stops, n and m are shared."
-unfoldable pub notStopped : (run : List StorageBox) → List StorageBox
-notStopped [] = []
-notStopped (b ∷ bs) = if b .away then notStopped bs else b ∷ notStopped bs
+-- the boxes of a run that are not away, whichever the department. Wish 6: "Only box stops, n and m are shared."
+unfoldable pub notAway : (run : List StorageBox) → List StorageBox
+notAway [] = []
+notAway (b ∷ bs) = if b .away then notAway bs else b ∷ notAway bs
 
 -- the highest write rank of the department's records in some boxes, 0 where there are none
 unfoldable pub highestWrite : (department : Department) (run : List StorageBox) → ℕ
@@ -22,7 +22,7 @@ highestWrite d (b ∷ bs) = max (highestWrite d bs) (registerOf d b .write)
 
 -- "how many have not stopped and the highest write rank among those": the tally of the department
 unfoldable pub tallyOf : (department : Department) (run : List StorageBox) → Tally
-tallyOf d bs = record { count = length (notStopped bs); highest = highestWrite d (notStopped bs) }
+tallyOf d bs = record { count = length (notAway bs); highest = highestWrite d (notAway bs) }
 
 -- a tally with one box more
 unfoldable pub oneMore : (department : Department) (b : StorageBox) (t : Tally) → Tally

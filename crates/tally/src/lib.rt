@@ -1,4 +1,4 @@
-// The tally of box records, of one department: how many boxes have not stopped, and the highest write rank of the department's records
+// The tally of box records, of one department: how many boxes are not away, and the highest write rank of the department's records
 // among those. Wish 6 of document 02: "Each box keeps one record a department, and the tally is told which."
 ghost use mathlib.Core.Path.{_≡_};
 ghost use Prim.Native.Nat.{_+_, _≤_, _<_, _^_, min};
@@ -7,7 +7,7 @@ ghost use Rattle.tally.specs.Tally.{oneMore, tallyOf};
 use register::Department;
 use register::StorageBox;
 
-// How many boxes have not stopped, and the highest write rank of a department among those; 0 and 0 where there are none.
+// How many boxes are not away, and the highest write rank of a department among those; 0 and 0 where there are none.
 pub struct Tally {
     pub count: usize,
     pub highest: u32,

@@ -1,7 +1,7 @@
 use borrow.Author.Needs.{needs}
 use Prim.Native.Nat.{ℕ, _≤_, _+_, _-_}
 use native.Mathlib.Omega.{arith}
-use mathlib.Core.Path.{_≡_, refl, sym, ap, subst, _∙_}
+use mathlib.Core.Path.{_≡_, refl, sym, ap, _∙_}
 use Rattle.base.proofs.Choices.{on-true, on-false}
 use Rattle.base.proofs.Tests.{tests}
 use Rattle.attempts.specs.Rows.{rowDepartment, firstRow}
@@ -54,12 +54,12 @@ next-sound-spec =
     let e = x .first-row .ensures in
     let k = c .before .before .before .loop .k in
     omega (arith, z .stations (x .first-row .result + k) (of-use (x .before .before .before .args .t1) d _ (ap (λ (i : ℕ). rowDepartment (i + k)) e ∙ row-own d k h) (omega (arith, h, e, full, ap (λ (s : Share). s .used) u))), z .station-most))
-    (λ c κs. c .before .before .before .before .before .before .before .before .before .before .before .pre .box-most)
-    (λ c. omega (arith, c .before .before .before .before .before .loop-test .taken))
-    (λ c. omega (arith, c .before .before .before .before .before .loop-test .taken))
+    (λ c κs. c .before .before .before .before .before .before .before .before .before .before .pre .box-most)
+    (λ c. omega (arith, c .before .before .before .before .loop-test .taken))
+    (λ c. omega (arith, c .before .before .before .before .loop-test .taken))
     (λ c. (
-      omega (arith, c .before .before .before .before .before .loop-test .taken),
-      found-more _ _ _ _ _ _ _ _ (ap (λ (i : ℕ). i + c .before .before .before .before .before .before .loop .k) (c .before .before .before .before .before .before .before .before .before .first-row .ensures ∙ ap firstRow (sym (own (c .before .before .before .before .before .before .before .before .before))))) (c .before .before .before .before .before .before .loop .inv .1) refl refl (c .better .ensures),
+      omega (arith, c .before .before .before .before .loop-test .taken),
+      found-more _ _ _ _ _ _ _ _ (ap (λ (i : ℕ). i + c .before .before .before .before .before .loop .k) (c .before .before .before .before .before .before .before .before .first-row .ensures ∙ ap firstRow (sym (own (c .before .before .before .before .before .before .before .before))))) (c .before .before .before .before .before .loop .inv .1) refl refl (c .better .ensures),
     ))
     (λ c.
     let e : c .before .loop .k ≡ 64 = omega (arith, c .loop-test .left, c .before .loop .inv .0) in

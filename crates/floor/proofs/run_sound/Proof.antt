@@ -9,14 +9,13 @@ use mathlib.Core.Bool.{true, false}
 use lib.ListN.{length}
 use Rattle.base.specs.Records.{recordsFrom}
 use Rattle.base.proofs.Choices.{chosen}
-use Rattle.register.specs.Register.{boxWith}
 use Rattle.commands.specs.Commands.{commandOf}
 use Rattle.commands.specs.Outcomes.{isRefused}
-use Rattle.attempts.specs.Rows.{rowDepartment, firstRow}
+use Rattle.attempts.specs.Rows.{rowDepartment}
 use Rattle.attempts.proofs.RowDepartments.{first-most, row-own}
 use Rattle.parts.specs.Parts.{departmentIn, changeIn}
 use Rattle.parts.specs.declared.Parts.{Parts}
-use Rattle.floor.specs.Floors.{boxAt, departmentAt, shareOf, InUse, sharesWith}
+use Rattle.floor.specs.Floors.{departmentAt, shareOf, InUse}
 use Rattle.floor.specs.Free.{startOf}
 use Rattle.floor.specs.Runs.{runFrom}
 use Rattle.floor.specs.Claims.{Sound}
@@ -140,13 +139,13 @@ run-sound-spec =
     let y = c .before .before .before .loop2 in
     let z = home o .loop .inv .1 in
     omega (arith, z .stations _ (looked-at o (y .passed) _ h refl (looking-full _ _ _ _ _ h (y .inv .1))), z .station-most))
-    (λ c κs. home (c .before .before .before .before .before .before .before .before) .loop .inv .1 .box-most)
-    (λ c. omega (arith, c .before .before .before .before .before .loop2-test .taken))
-    (λ c. omega (arith, c .before .before .before .before .before .loop2-test .taken))
+    (λ c κs. home (c .before .before .before .before .before .before .before) .loop .inv .1 .box-most)
+    (λ c. omega (arith, c .before .before .before .before .loop2-test .taken))
+    (λ c. omega (arith, c .before .before .before .before .loop2-test .taken))
     (λ c.
-    let o = c .before .before .before .before .before .before .before .before .before in
-    let h = c .before .before .before .before .before .loop2-test .taken in
-    let y = c .before .before .before .before .before .before .loop2 in
+    let o = c .before .before .before .before .before .before .before .before in
+    let h = c .before .before .before .before .loop2-test .taken in
+    let y = c .before .before .before .before .before .loop2 in
     (omega (arith, h), looking-on _ _ _ _ _ _ _ _ _ h (y .inv .1) (ap (λ (i : ℕ). i + y .passed) (o .first-row .ensures)) refl refl (c .better .ensures)))
     (λ c κs. search needs)
     (λ c. search needs)

@@ -13,7 +13,7 @@ use Rattle.tally.specs.declared.Tally.{Tally}
 use Rattle.tally.proofs.with_box.Statement.{statement}
 use Rattle.tally.proofs.with_box.Tie as tie
 
--- a box that has not stopped: the higher of the two ranks is kept
+-- a box that is not away: the higher of the two ranks is kept
 module _ (d : Department) (b : StorageBox) (t : Tally) (x : Register) (e : b .away ≡ false) (q : x ≡ registerOf d b) where
   counted : (h : ℕ) → max (t .highest) (x .write) ≡ h → record { count = t .count + 1; highest = h } ≡ oneMore d b t
   unfolding oneMore

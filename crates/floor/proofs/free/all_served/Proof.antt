@@ -8,10 +8,10 @@ use Rattle.floor.proofs.free.all_served.Statement.{statement}
 use Rattle.floor.proofs.free.all_served.Tie as tie
 
 abbrev Inv-loop : tie.InvT-loop
-Inv-loop w n boxes ok₀ k₀ ok k = (k ≤ n) × (ok ≡ allServed w boxes k)
+Inv-loop w n ok₀ k₀ ok k = (k ≤ n) × (ok ≡ allServed w k)
 
 abbrev μ-loop : tie.MeasureT-loop
-μ-loop w n boxes ok₀ k₀ ok k = n - k
+μ-loop w n ok₀ k₀ ok k = n - k
 
 pub all-served-spec : {M : Type 1} → statement M
 unfolding allServed
@@ -21,9 +21,6 @@ all-served-spec =
     Inv-loop
     μ-loop
     (λ c. (search needs, refl))
-    (λ c. omega arith)
-    (λ c. omega arith)
-    (λ c. omega arith)
     (λ c κs. search needs)
     (λ c κs. search needs)
     (λ c. omega arith)

@@ -5,4 +5,4 @@ use Rattle.floor.proofs.free.still_served.Tie as tie
 
 pub still-served-spec : {M : Type 1} → statement M
 unfolding stillServed
-still-served-spec = tie.close (tie.spec (λ c. search picks) (λ c. search picks) (λ c. search picks))
+still-served-spec = tie.close (tie.spec (λ c. search picks) (λ c. search picks))
