@@ -4,8 +4,8 @@
  * number of stations; the length of the label, one byte; the label; in version 2 the departments, one byte for each station, 0 for sails
  * and 1 for canvas; then the records, 8 bytes each. Version 1 has no department bytes: all its stations are of sails.
  *
- * The call checks its arguments itself, in the order of the answers below, and looks into no record. What it cannot check is the
- * caller's:
+ * The call checks its arguments itself, in the order of the answers below. Of a record it looks at the kind alone, whether that is 6. What
+ * it cannot check is the caller's:
  *   - no pointer is NULL, also where its length is 0, and each has as many bytes behind it as its length says;
  *   - buffer, label, departments, records and size do not overlap.
  * It keeps no state of its own, allocates nothing and calls nothing else.
@@ -30,6 +30,7 @@ extern "C" {
 #define DRILL_REFUSED_LABEL 4u        /* the label has not 1 to 32 bytes, or one of them is not 33 to 126 */
 #define DRILL_REFUSED_DEPARTMENTS 22u /* in version 1 there are department bytes; in version 2 they are not m, or one is not 0 or 1 */
 #define DRILL_REFUSED_RECORDS 5u      /* the records are not a multiple of 8 bytes, or are more than 4,096 */
+#define DRILL_REFUSED_KIND 7u         /* the kind of a record is 6: a box is put away by kind 8 */
 #define DRILL_REFUSED_BUFFER 18u      /* the buffer is shorter than the file */
 
 /* Writes the file of version, n, m, label, departments and records to the start of the buffer and stores its size, 6 + label_len +

@@ -1,6 +1,6 @@
 /* box RECORD_FILE SECONDS: a box that can be run. It serves one record on a free TCP port of 127.0.0.1, which it prints as `port N`,
- * one request at a time, until the seconds have passed or a signal ends it. The record is in RECORD_FILE; where there is no such file
- * the box is new. C99 and POSIX, with the calls of include/box_firmware.h. */
+ * one request at a time, until the seconds have passed or a signal ends it. The record is in RECORD_FILE: a box that was ended, at any
+ * moment, comes back with it. Where there is no such file the box is new. C99 and POSIX, with the calls of include/box_firmware.h. */
 #include "box_firmware.h"
 
 #include <arpa/inet.h>
@@ -34,8 +34,8 @@ static void stop(const char *why) {
 }
 
 /* [serve] */
-/* A box started again goes on with what the file holds. So the new bytes are on the disk before the file becomes them, and its new
- * place in the folder is, before an answer is sent. A box that cannot keep its record does not answer: to the floor it has stopped. */
+/* A box that comes back goes on with what the file holds. So the new bytes are on the disk before the file becomes them, and its new
+ * place in the folder is, before an answer is sent. A box that cannot keep its record does not answer: to the floor it is away. */
 static void save(void) {
     int file = open(new_file, O_WRONLY | O_CREAT | O_TRUNC, 0666);
     if (file < 0 || write(file, record, sizeof record) != (ssize_t)sizeof record || fsync(file) != 0 || close(file) != 0 ||
@@ -68,7 +68,7 @@ static int serve(int fd, struct connection *c) {
 }
 /* [/serve] */
 
-/* Any 12 bytes are a record. A file of another size is none, and a box that has lost its record does not answer. */
+/* Any 12 bytes are a record. A file of another size is none, and a box that has lost its record stays away. */
 static void load(void) {
     uint8_t bytes[BOX_RECORD_BYTES + 1];
     FILE *file = fopen(record_file, "rb");

@@ -14,7 +14,8 @@ import sys
 from rests_on import TOP, WORD, believed, in_order
 
 GUARANTEES = "docs/GUARANTEES.md"
-DOCS = [GUARANTEES, "README.md", "CONTRIBUTING.md", "docs/DECISIONS.md", "docs/PROTOCOL.md", "docs/BOX-MAKERS.md", "docs/DRILLS.md", "docs/COSTS.md", "docs/changes/second_reading.md", "docs/changes/wish-01.md", "docs/changes/wish-02.md", "docs/changes/wish-03.md", "docs/changes/wish-04.md", "docs/changes/wish-05.md", "docs/changes/wish-06.md"]
+DOCS = [GUARANTEES, "README.md", "CONTRIBUTING.md", "docs/DECISIONS.md", "docs/PROTOCOL.md", "docs/BOX-MAKERS.md", "docs/DRILLS.md", "docs/COSTS.md"]
+DOCS += sorted(f"docs/changes/{note.name}" for note in TOP.glob("docs/changes/*.md"))
 ROOTS = "crates|tests|drills|include|docs|\\.ci"
 PARTS = "specs|proofs|src|must-fail"
 PATH = re.compile(

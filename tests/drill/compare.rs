@@ -1,9 +1,12 @@
 //! compare PROGRAM COUNT SEED FOLDER [coverage|CLAIM|claims]: runs PROGRAM on COUNT generated drill files and compares what it prints with
 //! the reference, byte for byte; on each played file it also looks for demand 3's safety claims, within each department, in the reference's
-//! trace and lines. Each version 2 file with accepted steps of both departments is run twice more, its accepted steps without those of one
-//! of them: the stations of the other have to print what they printed. The first file on which something differs is left in FOLDER. With
-//! the name of a CLAIM that is the first file on which the reference breaks it, with `claims` the first on which it breaks any; PROGRAM is
-//! not run then, and what the files reached is not counted.
+//! trace and lines, and that a box that comes back is as it went. Some files are run again: each version 2 file with accepted steps of both
+//! departments twice, its accepted steps without those of one of them, where the stations of the other have to print what they printed;
+//! each file with boxes put away once, its accepted steps without these stops and returns, where all stations have to; and each file with
+//! kind 6 once, with kind 8 in its place. The first file on which something differs is left in FOLDER. With the name of a CLAIM that is the
+//! first file on which the reference breaks it, with `claims` the first on which it breaks any; PROGRAM is not run then, and what the files
+//! reached is not counted.
+mod away;
 mod generate;
 mod reference;
 
@@ -17,6 +20,9 @@ use std::time::Duration;
 
 /// What the files of a comparison reached: how many files for each thing reached.
 type Coverage = BTreeMap<String, usize>;
+
+/// How the lines of the coverage start that 4,000 files have to reach, each of them.
+const HAVE_TO: [&str; 2] = [WITHDRAWAL, away::AWAY];
 
 fn main() {
     let words: Vec<String> = std::env::args().collect();
@@ -78,9 +84,11 @@ fn main() {
     }
     let [sails, canvas] = DEPARTMENTS.map(|d| reached.get(&taken_out(d)).copied().unwrap_or(0) as u64);
     assert!(count < 1000 || 8 * sails.min(canvas) >= count, "only {sails} and {canvas} files were run without one department's steps");
-    let unmet: Vec<_> = reached.iter().filter(|(what, files)| what.starts_with(WITHDRAWAL) && **files == 0).collect();
+    let has_to = |what: &str| HAVE_TO.iter().any(|start| what.starts_with(start));
+    let unmet: Vec<_> = reached.iter().filter(|(what, files)| has_to(what) && **files == 0).collect();
     assert!(count < 4000 || unmet.is_empty(), "no file reached {unmet:?}");
     println!("drill: {sails} files run again without the steps of sails, {canvas} without those of canvas");
+    println!("drill: {} files run again without stops and returns", reached.get(NOT_AWAY).copied().unwrap_or(0));
     println!("drill: {count} files compared");
 }
 
@@ -114,10 +122,11 @@ fn alone(file: &[u8]) -> Result<(), String> {
     let Ok(parts) = reference::parts(file) else { return Ok(()) };
     let played = reference::play(&parts);
     claims(&played, &reference::lines(&parts, &played)).map_err(in_trace)?;
+    returns(&parts, &played).map_err(in_trace)?;
     for out in DEPARTMENTS.into_iter().filter(|_| parts.version == 2) {
         deletion(&parts, &played, &left(&parts, &played, out), out).map_err(in_trace)?;
     }
-    Ok(())
+    absences(&parts, &played, &answering(&parts, &played)).map_err(in_trace)
 }
 
 fn in_trace(claim: String) -> String {
@@ -137,22 +146,42 @@ fn compare(program: &str, file: &[u8], number: u64, reached: &mut Coverage) -> R
     let played = reference::play(&parts);
     let lines = reference::lines(&parts, &played);
     claims(&played, &lines).map_err(in_trace)?;
+    returns(&parts, &played).map_err(in_trace)?;
     cover(&played, reached);
     cover_rows(&parts, &played, reached);
     cover_numbers(&parts, &played, reached);
     cover_departments(&parts, &played, reached);
     cover_withdrawals(&parts, &played, reached);
+    away::cover(&parts, &played, reached);
     prints(program, file, pieces, &lines)?;
     for out in DEPARTMENTS.into_iter().filter(|_| parts.version == 2) {
         let left = left(&parts, &played, out);
-        if left.len() < played.trace.len() && left.iter().any(|(step, _)| !matches!(step, Step::Stop { .. })) {
+        if left.len() < played.trace.len() && left.iter().any(|(_, step, _)| !of_a_box(*step)) {
             cover_deletion(&played, &left, out, reached);
-            let (short, expected) = without(file, &parts, &lines, &left, out);
+            let (short, expected) = without(file, &parts, &lines, &left, Some(out));
             prints(program, &short, false, &expected).map_err(|why| format!("the program breaks deletion: without {out:?}: {why}"))?;
         }
         deletion(&parts, &played, &left, out).map_err(in_trace)?;
     }
-    Ok(())
+    let answering = answering(&parts, &played);
+    if answering.len() < played.trace.len() {
+        note(reached, NOT_AWAY);
+        let (short, expected) = without(file, &parts, &lines, &answering, None);
+        prints(program, &short, false, &expected).map_err(|why| format!("the program breaks return: with no box away: {why}"))?;
+    }
+    if let Some(other) = with_kind_8(file, &parts) {
+        prints(program, &other, false, &lines).map_err(|why| format!("with kind 8 in the place of 6: {why}"))?;
+    }
+    absences(&parts, &played, &answering).map_err(in_trace)
+}
+
+/// Document 02, wish 8: kind 6 is read as kind 8. The file with 8 in the place of each 6, where there is one.
+fn with_kind_8(file: &[u8], parts: &Parts) -> Option<Vec<u8>> {
+    let (first, mut other) = (file.len() - 8 * parts.records.len(), file.to_vec());
+    for kind in other[first..].iter_mut().step_by(8).filter(|kind| **kind == 6) {
+        *kind = 8;
+    }
+    Some(other).filter(|other| other != file)
 }
 
 fn prints(program: &str, file: &[u8], pieces: bool, expected: &str) -> Result<(), String> {
@@ -186,13 +215,18 @@ fn run(program: &str, file: &[u8], pieces: bool) -> Result<Vec<u8>, String> {
     Ok(output.stdout)
 }
 
-/// Whether a step is one of that department: a begin and a gone by its station, a serve and a delivery by the number of its row. A box
-/// stop is of neither.
+/// Whether a step puts a box away or brings it back.
+fn of_a_box(step: Step) -> bool {
+    matches!(step, Step::Stop { .. } | Step::Back { .. })
+}
+
+/// Whether a step is one of that department: a begin and a gone by its station, a serve and a delivery by the number of its row. That a box
+/// goes away or comes back is of neither.
 fn belongs(step: Step, stations: &[Department], department: Department) -> bool {
     match step {
         Step::Begin { station, .. } | Step::Gone { station } => stations[station] == department,
         Step::Serve { attempt, .. } | Step::Deliver { attempt, .. } => (attempt < 64) == (department == Department::Sails),
-        Step::Stop { .. } => false,
+        Step::Stop { .. } | Step::Back { .. } => false,
     }
 }
 
@@ -201,21 +235,38 @@ fn taken_out(out: Department) -> String {
     format!("deletion: {out:?} taken out")
 }
 
-/// The accepted steps of a file but those of that department, with what each of them said.
-fn left(parts: &Parts, played: &Played, out: Department) -> Vec<(Step, Said)> {
-    let stations = parts.stations();
-    played.trace.iter().copied().filter(|(step, _)| !belongs(*step, &stations, out)).collect()
+/// The words under which the files are counted that were run with no box put away.
+const NOT_AWAY: &str = "return: stops and returns taken out";
+
+/// Some of the accepted steps of a file: the record, the step and what it said.
+type Left<'a> = Vec<(&'a [u8], Step, Said)>;
+
+/// The accepted steps of a file that are wanted.
+fn those<'a>(parts: &Parts<'a>, played: &Played, wanted: impl Fn(Step) -> bool) -> Left<'a> {
+    let accepted = parts.records.clone().zip(&played.trace);
+    accepted.map(|(record, (step, said))| (record, *step, *said)).filter(|(_, step, _)| wanted(*step)).collect()
 }
 
-/// Document 02, wish 6, the deletion: the file of the steps left, and what the program has to print on it. All of them are accepted, a
-/// station of the other department stands as it stood, and one of the department taken out has done nothing.
-fn without(file: &[u8], parts: &Parts, lines: &str, left: &[(Step, Said)], out: Department) -> (Vec<u8>, String) {
+/// The accepted steps of a file but those of that department: what puts a box away or brings it back is kept.
+fn left<'a>(parts: &Parts<'a>, played: &Played, out: Department) -> Left<'a> {
+    let stations = parts.stations();
+    those(parts, played, |step| !belongs(step, &stations, out))
+}
+
+/// The accepted steps of a file with no box put away.
+fn answering<'a>(parts: &Parts<'a>, played: &Played) -> Left<'a> {
+    those(parts, played, |step| !of_a_box(step))
+}
+
+/// The file of the steps left, and what the program has to print on it. All of them are accepted, a station stands as it stood, and one of
+/// the department taken out, if one is, has done nothing.
+fn without(file: &[u8], parts: &Parts, lines: &str, left: &Left, out: Option<Department>) -> (Vec<u8>, String) {
     let mut short = file[..file.len() - 8 * parts.records.len()].to_vec();
-    short.extend(left.iter().flat_map(|(step, _)| generate::encode(*step)));
+    short.extend(left.iter().flat_map(|(record, _, _)| record.iter()));
     generate::sign(&mut short);
     let mut expected: Vec<String> = lines.lines().map(String::from).collect();
     for (s, department) in parts.stations().into_iter().enumerate() {
-        if department == out {
+        if Some(department) == out {
             expected[1 + s] = format!("station {s} idle 0 none");
         }
     }
@@ -223,21 +274,75 @@ fn without(file: &[u8], parts: &Parts, lines: &str, left: &[(Step, Said)], out: 
     (short, expected.join("\n"))
 }
 
-/// The same on the reference: each step left says what it said, and behind the last the records of the other department in the boxes, its
-/// stations and its rows are what they were.
-fn deletion(parts: &Parts, played: &Played, left: &[(Step, Said)], out: Department) -> Result<(), String> {
-    let (mut floor, was) = (Floor::new(parts.n, &parts.stations()), &played.floor);
-    for (step, said) in left {
+/// The floor of the steps left, each of which says what it said.
+fn played_again(parts: &Parts, left: &Left) -> Result<Floor, String> {
+    let mut floor = Floor::new(parts.n, &parts.stations());
+    for (_, step, said) in left {
         let now = floor.step(*step);
         if now != Ok(*said) {
-            return Err(format!("deletion: without {out:?} {step:?} gives {now:?} in place of {said:?}"));
+            return Err(format!("{step:?} gives {now:?} in place of {said:?}"));
         }
     }
-    let other = DEPARTMENTS[1 - out as usize];
-    let boxes = was.boxes.iter().zip(&floor.boxes).all(|(a, b)| a.stopped == b.stopped && a.register(other) == b.register(other));
+    Ok(floor)
+}
+
+/// Document 02, wish 6, the deletion on the reference: each step left says what it said, and behind the last the records of the other
+/// department in the boxes, its stations and its rows are what they were.
+fn deletion(parts: &Parts, played: &Played, left: &Left, out: Department) -> Result<(), String> {
+    let floor = played_again(parts, left).map_err(|why| format!("deletion: without {out:?} {why}"))?;
+    let (was, other) = (&played.floor, DEPARTMENTS[1 - out as usize]);
+    let boxes = was.boxes.iter().zip(&floor.boxes).all(|(a, b)| a.away == b.away && a.register(other) == b.register(other));
     let stations = was.stations.iter().zip(&floor.stations).all(|(a, b)| a.department == out || a == b);
     let rows = was.rows.range(other.rows()).eq(floor.rows.range(other.rows()));
     if boxes && stations && rows { Ok(()) } else { Err(format!("deletion: without {out:?} another floor of {other:?} is left")) }
+}
+
+/// Document 02, wish 8, on the reference: a box that was away has changed nothing. Without the steps that put a box away or bring it back
+/// each step says what it said, and behind the last the records in the boxes, the stations and the rows are what they were.
+fn absences(parts: &Parts, played: &Played, left: &Left) -> Result<(), String> {
+    let floor = played_again(parts, left).map_err(|why| format!("return: with no box away {why}"))?;
+    let was = &played.floor;
+    let boxes = was.boxes.iter().zip(&floor.boxes).all(|(a, b)| a.sails == b.sails && a.canvas == b.canvas);
+    let same = boxes && was.stations == floor.stations && was.rows == floor.rows;
+    if same { Ok(()) } else { Err("return: with no box away another floor is left".to_string()) }
+}
+
+/// Document 02, wish 8, on the reference: a box that comes back has the records that it had when it went, and what waited there waits. The
+/// accepted steps are played again.
+fn returns(parts: &Parts, played: &Played) -> Result<(), String> {
+    let mut floor = Floor::new(parts.n, &parts.stations());
+    // the floor before each box went
+    let mut went: BTreeMap<usize, Floor> = BTreeMap::new();
+    for (step, _) in &played.trace {
+        let was = if of_a_box(*step) { Some(floor.clone()) } else { None };
+        let _ = floor.step(*step);
+        let (Step::Stop { at } | Step::Back { at }, Some(was)) = (*step, was) else { continue };
+        waits_on(&was, &floor, at)?;
+        if let Step::Stop { .. } = step {
+            went.insert(at, was);
+            continue;
+        }
+        let was = went.remove(&at).ok_or(format!("return: box {at} comes back and was not away"))?;
+        waits_on(&was, &floor, at)?;
+        let (old, new) = (&was.boxes[at], &floor.boxes[at]);
+        if new.away || old.sails != new.sails || old.canvas != new.canvas {
+            return Err(format!("return: box {at} goes as {old:?} and comes back as {new:?}"));
+        }
+    }
+    Ok(())
+}
+
+/// What waited at a box waits there, for the same attempt.
+fn waits_on(was: &Floor, now: &Floor, b: usize) -> Result<(), String> {
+    for (row, a) in &was.rows {
+        let (same, new) = (now.rows[row].rank == a.rank, &now.rows[row]);
+        let read = a.reads[b] != Request::Waiting || (same && new.reads[b] == Request::Waiting);
+        let write = a.writes[b] != Request::Waiting || (same && new.writes[b] == Request::Waiting);
+        if !read || !write {
+            return Err(format!("return: what waited at box {b} of attempt {row} waits no more"));
+        }
+    }
+    Ok(())
 }
 
 /// The history of a department: station, rank and offered revision of each attempt, the highest rank served, and what each station decided.
@@ -334,6 +439,7 @@ fn cover(played: &Played, reached: &mut Coverage) {
         ("aborted", aborted > 0),
         ("aborted 20 times or more", aborted >= 20),
         ("a box stopped", times(&|s| matches!(s, Said::Stopped(_))) > 0),
+        ("a box back", times(&|s| matches!(s, Said::Back(_))) > 0),
         ("a station gone", times(&|s| matches!(s, Said::Gone(_))) > 0),
         ("gone after deciding", floor.stations.iter().any(|s| s.state == State::Gone && s.decided.is_some())),
         ("1,000 accepted steps or more", played.trace.len() >= 1000),
@@ -432,13 +538,7 @@ fn cover_rows(parts: &Parts, played: &Played, reached: &mut Coverage) {
                     }
                 }
             }
-            Step::Stop { .. } => {
-                let free = |floor: &Floor| floor.rows.keys().filter(|row| floor.free(**row)).count();
-                let before = free(&floor);
-                if floor.step(step).is_ok() && free(&floor) > before {
-                    all.insert("a row free as a box stops".to_string());
-                }
-            }
+            Step::Stop { .. } | Step::Back { .. } => drop(floor.step(step)),
             Step::Serve { phase, attempt, .. } => {
                 let said = floor.step(step);
                 let again = rows.get(attempt).is_some_and(|row| row.times > 0);
@@ -553,8 +653,6 @@ fn cover_begin(step: Step, station: usize, floor: &mut Floor, rows: &mut [Row], 
         ("64 rows used, several free", free > 1),
         ("64 rows used, all free", free == ROWS),
         ("given back: not the lowest row that is free", (department.rows().start..taken).any(|row| was.free(row))),
-        ("given back: with a read waiting at a stopped box", old.reads.contains(&Request::Waiting)),
-        ("given back: with a write waiting at a stopped box", old.writes.contains(&Request::Waiting)),
         ("given back: with a read's answer on the way", dropped.iter().any(|(phase, _)| *phase == Phase::Read)),
         ("given back: with a write's answer on the way", dropped.iter().any(|(phase, _)| *phase == Phase::Write)),
         ("given back: to the same station", old.station == station),
@@ -571,9 +669,8 @@ fn cover_begin(step: Step, station: usize, floor: &mut Floor, rows: &mut [Row], 
 /// The rows of a department below a rank that are not free, for one cause alone.
 fn kept(floor: &Floor, department: Department, rank: u32, all: &mut BTreeSet<String>) {
     for (&number, a) in floor.rows.range(department.rows()).filter(|(_, a)| a.rank < rank) {
-        let answering = || (0..floor.boxes.len()).filter(|b| !floor.boxes[*b].stopped);
-        let reads = answering().filter(|b| a.reads[*b] == Request::Waiting).count();
-        let writes = answering().filter(|b| a.writes[*b] == Request::Waiting).count();
+        let reads = a.reads.iter().filter(|r| **r == Request::Waiting).count();
+        let writes = a.writes.iter().filter(|w| **w == Request::Waiting).count();
         let why = match (floor.stations[a.station].state, reads, writes) {
             (State::Reading(row), 0, _) if row == number => "its station reads in it",
             (State::Writing(row), 0, 0) if row == number => "its station writes in it",
@@ -587,7 +684,7 @@ fn kept(floor: &Floor, department: Department, rank: u32, all: &mut BTreeSet<Str
     }
 }
 
-/// How the lines of the coverage about withdrawals start: offers of revision 0, and decisions of it. The 4,000 files reach each of them.
+/// How the lines of the coverage about withdrawals start: offers of revision 0, and decisions of it.
 const WITHDRAWAL: &str = "withdrawal: ";
 
 /// What a played file reached of withdrawals. Its steps are played again, the refused one too. A line that it does not reach is counted 0
@@ -606,7 +703,7 @@ fn cover_withdrawals(parts: &Parts, played: &Played, reached: &mut Coverage) {
             Step::Begin { station, round, revision } => withdrawal_begins(&mut floor, step, station, round, revision),
             Step::Serve { phase, attempt, at } => withdrawal_served(&mut floor, step, phase, attempt, at),
             Step::Deliver { phase, attempt, .. } => withdrawal_delivered(&mut floor, step, phase, attempt, again.contains(&attempt)),
-            Step::Stop { .. } | Step::Gone { .. } => {
+            Step::Stop { .. } | Step::Back { .. } | Step::Gone { .. } => {
                 let _ = floor.step(step);
                 Vec::new()
             }
@@ -825,7 +922,7 @@ fn cover_departments(parts: &Parts, played: &Played, reached: &mut Coverage) {
         ("decided in both, two revisions", decided[0].is_some() && decided[1].is_some() && decided[0] != decided[1]),
         ("aborted in both", in_both(&|s| matches!(s, Said::Aborted(_)))),
         ("gone in both", in_both(&|s| matches!(s, Said::Gone(_)))),
-        ("requests of both wait at a stopped box", (0..parts.n).any(|b| floor.boxes[b].stopped && wait(b))),
+        ("requests of both wait at a box that is away", (0..parts.n).any(|b| floor.boxes[b].away && wait(b))),
         ("both served after a box stopped", served_after_stop(played, &stations)),
     ] {
         if holds {
@@ -882,13 +979,16 @@ fn cover_refused(parts: &Parts, played: &Played, stations: &[Department], reache
 }
 
 /// What the files reached that were run without the steps of one department.
-fn cover_deletion(played: &Played, left: &[(Step, Said)], out: Department, reached: &mut Coverage) {
+fn cover_deletion(played: &Played, left: &Left, out: Department, reached: &mut Coverage) {
     note(reached, &taken_out(out));
-    let any = |what: &dyn Fn(&Said) -> bool| left.iter().any(|(_, said)| what(said));
-    let begins = left.iter().filter(|(_, said)| matches!(said, Said::Begun(_))).count();
+    let any = |what: &dyn Fn(&Said) -> bool| left.iter().any(|(_, _, said)| what(said));
+    let begins = left.iter().filter(|(_, _, said)| matches!(said, Said::Begun(_))).count();
     for (what, holds) in [
         ("every record of the file accepted", played.refusal == 0),
         ("a box stopped", any(&|said| matches!(said, Said::Stopped(_)))),
+        ("a box stopped by kind 6", left.iter().any(|(record, _, _)| record[0] == 6)),
+        ("a box stopped by kind 8", left.iter().any(|(record, _, _)| record[0] == 8)),
+        ("a box back", any(&|said| matches!(said, Said::Back(_)))),
         ("more than 64 attempts left", begins > ROWS),
         ("more than 64 attempts left, more than 64 taken out", begins > ROWS && begun(played, out).len() > ROWS),
         ("a decision left", any(&|said| matches!(said, Said::Decided(_)))),

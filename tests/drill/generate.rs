@@ -1,6 +1,6 @@
 //! Pseudo-random drill files from a seed, of both versions: long runs with much contention, runs of withdrawals beside revisions that are
-//! cut, runs through more attempts than there are rows, and damaged files of every kind; and parts for the writer. The same seed and the
-//! same number always give the same.
+//! cut, runs in which boxes go away and come back, runs through more attempts than there are rows, and damaged files of every kind; and
+//! parts for the writer. The same seed and the same number always give the same.
 #![allow(dead_code)]
 
 use crate::reference::{Attempt, Department, Floor, Phase, Register, Request, Said, State, Step, DEPARTMENTS, ROWS};
@@ -46,7 +46,7 @@ impl Random {
 /// The file of that number.
 pub fn file(seed: u64, number: u64) -> Vec<u8> {
     let r = &mut Random::new(seed, number);
-    match number % 34 {
+    match number % 43 {
         0..=9 => run(r),
         10..=11 => at_few_boxes(r),
         12..=14 => damaged(r),
@@ -57,6 +57,7 @@ pub fn file(seed: u64, number: u64) -> Vec<u8> {
         20 => noise(r),
         21..=22 => miscalled(r),
         23..=25 => withdrawals(r),
+        26..=33 => absences(r),
         _ => given_back(r),
     }
 }
@@ -95,7 +96,7 @@ pub fn handed(seed: u64, number: u64) -> Handed {
     }
     let whole = if r.percent(3) { r.pick(&[4095, 4096, 4097, 4098, 8192]) } else { r.below(12) };
     let odd = if r.percent(wrong) { r.between(1, 7) } else { 0 };
-    let records: Vec<u8> = (0..8 * whole + odd).map(|_| r.below(256) as u8).collect();
+    let records = records_handed(r, whole, odd);
     let size = 6 + label.len() + departments.len() + records.len();
     let room = match r.below(10) {
         0..=3 => size,
@@ -107,6 +108,25 @@ pub fn handed(seed: u64, number: u64) -> Handed {
     };
     let buffer = (0..room).map(|_| r.below(256) as u8).collect();
     Handed { buffer, version: version as u8, n: n as u8, m: m as u8, label, departments, records }
+}
+
+/// So many whole records and bytes behind them. Some have the byte 6 in many places; it is the kind of none, or of one, of two or of all.
+fn records_handed(r: &mut Random, whole: usize, odd: usize) -> Vec<u8> {
+    let sixes = r.pick(&[0, 0, 50]);
+    let mut records: Vec<u8> = (0..8 * whole + odd).map(|_| if r.percent(sixes) { 6 } else { r.below(256) as u8 }).collect();
+    for kind in records.iter_mut().step_by(8).filter(|kind| **kind == 6) {
+        *kind = r.pick(&[0, 5, 7, 8, 9, 10]);
+    }
+    let times = if whole == 0 { 0 } else { r.pick(&[0, 0, 0, 0, 0, 0, 0, 1, 1, 2, whole]) };
+    for nth in 0..times {
+        let any = r.below(whole);
+        let at = if times == whole { nth } else { r.pick(&[0, whole - 1, any, any]) };
+        records[8 * at] = 6;
+    }
+    if odd > 0 && r.percent(30) {
+        records[8 * whole] = 6;
+    }
+    records
 }
 
 /// Other department bytes than a file of that version has: one or more too many, or too few.
@@ -134,7 +154,8 @@ pub fn encode(step: Step) -> [u8; 8] {
         }
         Step::Serve { phase, attempt, at } => [kind(2, 3, phase), attempt as u8, at as u8, 0, 0, 0, 0, 0],
         Step::Deliver { phase, attempt, from } => [kind(4, 5, phase), attempt as u8, from as u8, 0, 0, 0, 0, 0],
-        Step::Stop { at } => [6, at as u8, 0, 0, 0, 0, 0, 0],
+        Step::Stop { at } => [8, at as u8, 0, 0, 0, 0, 0, 0],
+        Step::Back { at } => [9, at as u8, 0, 0, 0, 0, 0, 0],
         Step::Gone { station } => [7, station as u8, 0, 0, 0, 0, 0, 0],
     }
 }
@@ -163,14 +184,19 @@ impl Head {
     }
 }
 
-/// A file, its L set to what it should be (modulo 65,536 where it is too long for one).
-pub fn frame(head: &Head, label: &[u8], records: &[[u8; 8]]) -> Vec<u8> {
+/// A file, its L set to what it should be (modulo 65,536 where it is too long for one). Boxes are put away by kind 8, by kind 6, or by both.
+fn frame(r: &mut Random, head: &Head, label: &[u8], records: &[[u8; 8]]) -> Vec<u8> {
     let mut file = vec![0, 0, head.version, head.n as u8, head.m() as u8, label.len() as u8];
     file.extend_from_slice(label);
     if head.version == 2 {
         file.extend_from_slice(&head.departments);
     }
-    file.extend(records.iter().flatten());
+    let six = r.pick(&[0, 0, 50, 50, 50, 100]);
+    for record in records {
+        let kind = if record[0] == 8 && r.percent(six) { 6 } else { record[0] };
+        file.push(kind);
+        file.extend(&record[1..]);
+    }
     sign(&mut file);
     file
 }
@@ -181,6 +207,13 @@ pub fn sign(file: &mut [u8]) {
         let l = (file.len() - 2) as u16;
         file[..2].copy_from_slice(&l.to_be_bytes());
     }
+}
+
+/// The file of these records, with a label of any length.
+fn named(r: &mut Random, head: &Head, records: &[[u8; 8]]) -> Vec<u8> {
+    let length = r.between(1, 32);
+    let name = label(r, length);
+    frame(r, head, &name, records)
 }
 
 fn label(r: &mut Random, length: usize) -> Vec<u8> {
@@ -214,6 +247,7 @@ struct Habit {
     serve: [usize; 2],
     deliver: [usize; 2],
     stop: usize,
+    back: usize,
     gone: usize,
     /// how often a write that the box would take is put off, in percent, while rows are unused
     late: usize,
@@ -233,11 +267,13 @@ fn habit(r: &mut Random) -> Habit {
     let (serve, deliver) = ([weight(12), weight(12)], [weight(12), weight(12)]);
     let begin = weight(12);
     let rough = r.percent(40);
+    let (stop, back) = if rough { r.pick(&[(0, 0), (1, 0), (2, 0), (2, 30), (10, 100), (30, 300)]) } else { (0, 0) };
     Habit {
         begin,
         serve,
         deliver,
-        stop: if rough { r.below(3) } else { 0 },
+        stop,
+        back,
         gone: if rough { r.below(3) } else { 0 },
         late: r.pick(&[0, 30, 80, 95, 100]),
         spared: r.pick(&[0, 0, 50, 90, 100]),
@@ -323,7 +359,7 @@ fn accepted(r: &mut Random, floor: &Floor, h: &Habit) -> Option<Step> {
                 (Phase::Read, a.reads[b] == Request::Waiting, matches!(a.reads[b], Request::OnTheWay(_))),
                 (Phase::Write, a.writes[b] == Request::Waiting, matches!(a.writes[b], Request::OnTheWay(_))),
             ] {
-                if waiting && !storage.stopped && asked(h, floor, a, phase, b) {
+                if waiting && !storage.away && asked(h, floor, a, phase, b) {
                     let register = storage.register(department);
                     let put_off = match phase {
                         Phase::Read => register.outranks(a.rank) && r.percent(h.spared),
@@ -339,8 +375,8 @@ fn accepted(r: &mut Random, floor: &Floor, h: &Habit) -> Option<Step> {
         }
     }
     for (b, storage) in floor.boxes.iter().enumerate() {
-        if !storage.stopped && r.below(300) < h.stop {
-            by_kind[4].push(Step::Stop { at: b });
+        if r.below(300) < if storage.away { h.back } else { h.stop } {
+            by_kind[4].push(if storage.away { Step::Back { at: b } } else { Step::Stop { at: b } });
         }
     }
     for (s, station) in floor.stations.iter().enumerate() {
@@ -359,8 +395,8 @@ fn accepted(r: &mut Random, floor: &Floor, h: &Habit) -> Option<Step> {
     ];
     let total: usize = weights.iter().sum();
     if total == 0 {
-        // nothing is left but requests that were put off
-        return if by_kind[5].is_empty() { None } else { Some(r.pick(&by_kind[5])) };
+        // nothing is left but requests that were put off, and boxes that are away
+        return if by_kind[5].is_empty() { returning(r, floor).filter(|_| h.back > 0) } else { Some(r.pick(&by_kind[5])) };
     }
     let mut at = r.below(total);
     for (kind, w) in weights.iter().enumerate() {
@@ -370,6 +406,17 @@ fn accepted(r: &mut Random, floor: &Floor, h: &Habit) -> Option<Step> {
         at -= w;
     }
     None
+}
+
+/// The boxes that are away, or those that answer.
+fn boxes(floor: &Floor, away: bool) -> Vec<usize> {
+    (0..floor.boxes.len()).filter(|b| floor.boxes[*b].away == away).collect()
+}
+
+/// A box that is away comes back.
+fn returning(r: &mut Random, floor: &Floor) -> Option<Step> {
+    let away = boxes(floor, true);
+    if away.is_empty() { None } else { Some(Step::Back { at: r.pick(&away) }) }
 }
 
 /// The number of an attempt, begun or not: at the limits, or up to the first number of its department that is not used.
@@ -388,7 +435,7 @@ fn about(r: &mut Random, floor: &Floor) -> Step {
     let b = if r.percent(10) { r.pick(&[floor.boxes.len(), 9, 255]) } else { r.below(floor.boxes.len()) };
     let station = if r.percent(10) { r.pick(&[floor.stations.len(), 16, 255]) } else { r.below(floor.stations.len()) };
     let phase = if r.percent(50) { Phase::Read } else { Phase::Write };
-    match r.below(7) {
+    match r.below(8) {
         0 | 1 => {
             let last = floor.stations.get(station).map_or(0, |s| s.last_round);
             let round = r.pick(&[0, last, last + 1, last + 1, 65_535]).min(65_535);
@@ -397,6 +444,7 @@ fn about(r: &mut Random, floor: &Floor) -> Step {
         2 | 3 => Step::Serve { phase, attempt, at: b },
         4 => Step::Deliver { phase, attempt, from: b },
         5 => Step::Stop { at: b },
+        6 => Step::Back { at: b },
         _ => Step::Gone { station },
     }
 }
@@ -442,7 +490,7 @@ fn turned_back(r: &mut Random, floor: &Floor, refusal: u8) -> Option<[u8; 8]> {
     if refusal == 7 {
         let mut record = encode(about(r, floor));
         if r.percent(50) {
-            record[0] = r.pick(&[0, 8, 9, 10, 11, 128, 255]);
+            record[0] = r.pick(&[0, 10, 10, 11, 128, 255]);
         } else {
             record = encode(loop {
                 let step = about(r, floor);
@@ -522,24 +570,20 @@ fn run(r: &mut Random) -> Vec<u8> {
     let most = r.pick(&[0, 5, 40, 150, 150, 400, 400, 800, 2400]);
     let (mut records, mut floor) = accepted_steps(r, &head, most);
     if r.percent(45) {
-        let refusal = if !full(&floor).is_empty() && r.percent(70) { 12 } else { r.between(7, 14) as u8 };
-        // a station that is gone for refusal 9, a box that has stopped for refusal 13
+        let refusal = if !full(&floor).is_empty() && r.percent(70) { 12 } else { r.pick(&[7, 8, 9, 10, 11, 12, 13, 14, 23]) };
+        // a station that is gone for refusal 9, a box that is away for refusal 13
         let first = match refusal {
             9 => Some(leaver(r, &floor)),
             13 => Some(Step::Stop { at: r.below(head.n) }),
             _ => None,
         };
-        if let Some(step) = first.filter(|step| floor.step(*step).is_ok()) {
-            records.push(encode(step));
+        if let Some(step) = first {
+            tried(&mut floor, &mut records, step);
         }
-        if let Some(record) = turned_back(r, &floor, refusal) {
-            records.push(record);
-            more(r, &floor, &mut records);
-        }
+        let record = turned_back(r, &floor, refusal);
+        refused_last(r, &floor, &mut records, record);
     }
-    let length = r.between(1, 32);
-    let name = label(r, length);
-    frame(&head, &name, &records)
+    named(r, &head, &records)
 }
 
 /// A short run of few stations, whose requests are served at q boxes and no more. In half of these the last stations of each department read
@@ -551,11 +595,9 @@ fn at_few_boxes(r: &mut Random) -> Vec<u8> {
     let head = Head { version: version as u8, n, departments };
     let few = Some((r.next(), version * others));
     let (begin, late, low) = if at_one > 0 { (1, 0, 100) } else { (4, r.pick(&[0, 60]), 0) };
-    let h = Habit { begin, late, spared: 0, low, stop: 0, gone: 0, few, ..habit(r) };
+    let h = Habit { begin, late, spared: 0, low, stop: 0, back: 0, gone: 0, few, ..habit(r) };
     let (records, _) = steps_by(r, &h, &head, 60 * head.m());
-    let length = r.between(1, 32);
-    let name = label(r, length);
-    frame(&head, &name, &records)
+    named(r, &head, &records)
 }
 
 /// A short run in which many offers are withdrawals. It starts with a contest in each department, or in none. Then attempts are driven at
@@ -574,9 +616,7 @@ fn withdrawals(r: &mut Random) -> Vec<u8> {
     for _ in 0..version * r.between(1, 16) {
         if r.percent(gone) {
             let step = leaver(r, &floor);
-            if floor.step(step).is_ok() {
-                records.push(encode(step));
-            }
+            tried(&mut floor, &mut records, step);
         }
         let row = match begin(r, &floor, &DEPARTMENTS, low, withdrawn).filter(|_| r.percent(40)) {
             Some(step) => {
@@ -594,14 +634,10 @@ fn withdrawals(r: &mut Random) -> Vec<u8> {
     }
     if r.percent(60) {
         let refusal = r.pick(&[8, 9, 9, 9, 10, 10, 11, 11, 14]);
-        if let Some(record) = turned_back(r, &floor, refusal) {
-            records.push(record);
-            more(r, &floor, &mut records);
-        }
+        let record = turned_back(r, &floor, refusal);
+        refused_last(r, &floor, &mut records, record);
     }
-    let length = r.between(1, 32);
-    let name = label(r, length);
-    frame(&head, &name, &records)
+    named(r, &head, &records)
 }
 
 /// What is done in a contest: the next attempt of its department is begun, or a request of one, by its number in the contest, is served and
@@ -658,10 +694,156 @@ fn contests(r: &mut Random, floor: &mut Floor, records: &mut Vec<[u8; 8]>, depar
     }
 }
 
+/// A short run in which boxes go away and come back, some again and again, between the steps of attempts: few of them, a majority, or all.
+/// Attempts are driven at some boxes and left for a while; requests are served and their answers left on the way. What waited at a box that
+/// comes back is mostly served then. A last record may be turned back.
+fn absences(r: &mut Random) -> Vec<u8> {
+    let (n, version) = (r.pick(&[1, 2, 3, 3, 3, 3, 3, 4, 5, 5, 7, 9]), version(r) as usize);
+    let departments: Vec<u8> = (0..version * r.between(2, 5)).map(|s| (s % version) as u8).collect();
+    let head = Head { version: version as u8, n, departments };
+    let (low, withdrawn, gone) = (r.pick(&[0, 0, 30, 60]), r.pick(&[0, 20]), r.pick(&[0, 0, 3]));
+    let (away, back) = r.pick(&[(30, 30), (15, 30), (40, 15), (10, 60), (60, 60)]);
+    let (mut floor, mut records) = (head.floor(), Vec::new());
+    for _ in 0..version * r.between(2, 24) {
+        if r.percent(gone) {
+            let step = leaver(r, &floor);
+            tried(&mut floor, &mut records, step);
+        }
+        if r.percent(away) {
+            put_away(r, &mut floor, &mut records);
+        }
+        if let Some(step) = begin(r, &floor, &DEPARTMENTS, low, withdrawn).filter(|_| r.percent(30)) {
+            tried(&mut floor, &mut records, step);
+        }
+        in_part(r, &mut floor, &mut records);
+        if r.percent(back) {
+            bring_back(r, &mut floor, &mut records);
+        }
+    }
+    if r.percent(85) {
+        let refusal = r.pick(&[7, 7, 7, 8, 8, 8, 13, 13, 13, 13, 13, 23, 23, 23, 14, 10]);
+        let record = if r.percent(70) { turned_back_box(r, &floor, refusal) } else { None };
+        let record = record.or_else(|| turned_back(r, &floor, refusal));
+        refused_last(r, &floor, &mut records, record);
+    }
+    named(r, &head, &records)
+}
+
+/// A record that the floor turns back with that refusal, where there is one: it puts a box away, brings one back, or serves at one that is
+/// away, for 13 what waits there and for 8 a request of an attempt not begun.
+fn turned_back_box(r: &mut Random, floor: &Floor, refusal: u8) -> Option<[u8; 8]> {
+    for _ in 0..40 {
+        let step = of_box(r, floor, if refusal == 8 { 100 } else { 15 });
+        if refusal == 7 {
+            // most of these would be turned back for another cause too
+            if r.percent(70) && floor.clone().step(step).is_ok() {
+                continue;
+            }
+            let mut record = encode(step);
+            let any = r.between(2, 7);
+            record[r.pick(&[0, 0, 2, 7, any])] = r.pick(&[10, 128, 255]);
+            return Some(record);
+        }
+        let serve = if r.percent(50) { serve_away(r, floor, refusal) } else { None };
+        let step = serve.unwrap_or(step);
+        if floor.clone().step(step) == Err(refusal) {
+            return Some(encode(step));
+        }
+    }
+    None
+}
+
+/// A step that puts a box away or brings one back; how often it names no box, in percent.
+fn of_box(r: &mut Random, floor: &Floor, beyond: usize) -> Step {
+    let n = floor.boxes.len();
+    let at = if r.percent(beyond) { r.pick(&[n, n, 9, 16, 128, 255]) } else { r.below(n) };
+    if r.percent(50) { Step::Stop { at } } else { Step::Back { at } }
+}
+
+/// A serve at a box that is away: of a read or a write that waits there, for refusal 13, or of an attempt not begun, for refusal 8.
+fn serve_away(r: &mut Random, floor: &Floor, refusal: u8) -> Option<Step> {
+    let phase = if r.percent(50) { Phase::Read } else { Phase::Write };
+    let waits = |a: &Attempt, b: usize| match phase {
+        Phase::Read => a.reads[b] == Request::Waiting,
+        Phase::Write => a.writes[b] == Request::Waiting,
+    };
+    let mut serves: Vec<Step> = Vec::new();
+    for at in boxes(floor, true) {
+        let named: Vec<usize> = match refusal {
+            8 => DEPARTMENTS.map(|d| d.rows().start + floor.used(d)).to_vec(),
+            _ => floor.rows.iter().filter(|(_, a)| waits(a, at)).map(|(row, _)| *row).collect(),
+        };
+        serves.extend(named.into_iter().map(|attempt| Step::Serve { phase, attempt, at }));
+    }
+    if serves.is_empty() { None } else { Some(r.pick(&serves)) }
+}
+
+/// Puts boxes away: one, so many that fewer than q answer, or all.
+fn put_away(r: &mut Random, floor: &mut Floor, records: &mut Vec<[u8; 8]>) {
+    let answering = boxes(floor, false);
+    let majority = (answering.len() + 1).saturating_sub(floor.quorum());
+    let times = match r.below(12) {
+        0 | 1 => majority,
+        2 => answering.len(),
+        _ => 1,
+    };
+    let first = r.below(answering.len().max(1));
+    for at in answering.iter().cycle().skip(first).take(times.min(answering.len())) {
+        tried(floor, records, Step::Stop { at: *at });
+    }
+}
+
+/// Brings boxes back, one or all. What waits there of the attempts is served, for some of these, and the answer delivered, for some.
+fn bring_back(r: &mut Random, floor: &mut Floor, records: &mut Vec<[u8; 8]>) {
+    let away = boxes(floor, true);
+    let (first, times) = (r.below(away.len().max(1)), r.pick(&[1, 1, 1, away.len()]));
+    let served = r.pick(&[0, 50, 90, 100]);
+    for at in away.iter().cycle().skip(first).take(times.min(away.len())) {
+        tried(floor, records, Step::Back { at: *at });
+        if r.percent(10) {
+            tried(floor, records, Step::Stop { at: *at });
+        }
+        for row in floor.rows.keys().copied().collect::<Vec<_>>() {
+            for phase in [Phase::Read, Phase::Write] {
+                let step = Step::Serve { phase, attempt: row, at: *at };
+                if r.percent(served) && tried(floor, records, step) && r.percent(80) {
+                    tried(floor, records, Step::Deliver { phase, attempt: row, from: *at });
+                }
+            }
+        }
+    }
+}
+
+/// Serves a request of an attempt that is not over at some boxes, or delivers its answers from some, or both.
+fn in_part(r: &mut Random, floor: &mut Floor, records: &mut Vec<[u8; 8]>) {
+    let Some(row) = left_open(r, floor) else { return };
+    let (n, q) = (floor.boxes.len(), floor.quorum());
+    let phase = if matches!(floor.stations[floor.rows[&row].station].state, State::Writing(_)) { Phase::Write } else { Phase::Read };
+    let (first, boxes) = (r.below(n), r.pick(&[1, 1, q, q, n]));
+    let (serve, deliver) = r.pick(&[(true, true), (true, true), (true, false), (false, true)]);
+    for b in (first..n).chain(0..first).take(boxes) {
+        if serve {
+            tried(floor, records, Step::Serve { phase, attempt: row, at: b });
+        }
+        if deliver {
+            tried(floor, records, Step::Deliver { phase, attempt: row, from: b });
+        }
+    }
+}
+
 /// The row of an attempt whose station reads or writes in it.
 fn left_open(r: &mut Random, floor: &Floor) -> Option<usize> {
     let open: Vec<usize> = floor.rows.keys().copied().filter(|row| !floor.over(*row)).collect();
     if open.is_empty() { None } else { Some(r.pick(&open)) }
+}
+
+/// A step, where the floor accepts it.
+fn tried(floor: &mut Floor, records: &mut Vec<[u8; 8]>, step: Step) -> bool {
+    let accepted = floor.step(step).is_ok();
+    if accepted {
+        records.push(encode(step));
+    }
+    accepted
 }
 
 /// Serves a request of an attempt and delivers the answer at so many boxes from one on, one behind the other, where these are accepted.
@@ -669,10 +851,16 @@ fn drive(floor: &mut Floor, records: &mut Vec<[u8; 8]>, row: usize, phase: Phase
     let n = floor.boxes.len();
     for b in (first..n).chain(0..first).take(boxes) {
         for step in [Step::Serve { phase, attempt: row, at: b }, Step::Deliver { phase, attempt: row, from: b }] {
-            if floor.step(step).is_ok() {
-                records.push(encode(step));
-            }
+            tried(floor, records, step);
         }
+    }
+}
+
+/// Puts a record that is turned back, if there is one, behind the others, and more behind it.
+fn refused_last(r: &mut Random, floor: &Floor, records: &mut Vec<[u8; 8]>, record: Option<[u8; 8]>) {
+    if let Some(record) = record {
+        records.push(record);
+        more(r, floor, records);
     }
 }
 
@@ -707,13 +895,17 @@ struct Wear {
     but_at: Option<usize>,
     /// in a thousand steps, of either department
     stop: usize,
+    back: usize,
     gone: usize,
+    /// how often what waits at a box that comes back, of an attempt that is over, is served then, in percent
+    caught_up: usize,
 }
 
-/// How a run is driven in each department, and how often a step of sails is wanted, in percent.
+/// How a run is driven in each department, how often a step of sails is wanted, and how often a box is away from the start, in percent.
 struct Shared {
     wear: [Wear; 2],
     sails: usize,
+    away: usize,
 }
 
 impl Shared {
@@ -723,12 +915,12 @@ impl Shared {
 }
 
 /// One department may be left alone, or nearly so.
-fn shared(r: &mut Random, head: &Head, wear: [Wear; 2]) -> Shared {
+fn shared(r: &mut Random, head: &Head, wear: [Wear; 2], away: usize) -> Shared {
     let sails = match head.both() {
         true => r.pick(&[50, 50, 50, 50, 50, 50, 40, 60, 3, 97, 0, 100]),
         false => 100 * head.departments.contains(&0) as usize,
     };
-    Shared { wear, sails }
+    Shared { wear, sails, away }
 }
 
 fn wear(r: &mut Random, n: usize, m: usize) -> Wear {
@@ -748,21 +940,24 @@ fn wear(r: &mut Random, n: usize, m: usize) -> Wear {
         but_one,
         but_at: if r.percent(50) { Some(r.below(n)) } else { None },
         stop: if rough { r.below(6) } else { 0 },
+        back: r.pick(&[0, 2, 5, 20, 100]),
         gone: if rough { r.below(1 + m / 2) } else { 0 },
+        caught_up: r.pick(&[0, 60, 95, 100]),
     }
 }
 
-/// As many attempts as fit into a file: each is soon over and its row free at once.
-fn brisk(r: &mut Random) -> Wear {
+/// As many attempts as fit into a file: each is soon over and its row free at once, but for what waits at a box that is away.
+fn brisk(r: &mut Random, back: usize) -> Wear {
     let (low, withdrawn) = (r.pick(&[0, 50, 90]), r.pick(&[0, 50]));
-    Wear { wanted: [6, 8, 0, 0], low, withdrawn, late: 100, cleared: 100, but_one: 0, but_at: None, stop: 0, gone: 0 }
+    let (wanted, stop, gone, caught_up) = ([6, 8, 0, 0], 0, 0, r.pick(&[50, 90, 100]));
+    Wear { wanted, low, withdrawn, late: 100, cleared: 100, but_one: 0, but_at: None, stop, back, gone, caught_up }
 }
 
 /// The serves of an attempt that the floor accepts.
 fn serves(floor: &Floor, row: usize) -> Vec<Step> {
     let a = &floor.rows[&row];
     let mut steps = Vec::new();
-    for at in (0..floor.boxes.len()).filter(|b| !floor.boxes[*b].stopped) {
+    for at in boxes(floor, false) {
         if a.reads[at] == Request::Waiting {
             steps.push(Step::Serve { phase: Phase::Read, attempt: row, at });
         }
@@ -802,7 +997,7 @@ fn in_phase(r: &mut Random, floor: &Floor, w: &Wear, row: usize, phase: Phase, p
                 return Some(Step::Deliver { phase, attempt: row, from: b });
             }
             let storage = &floor.boxes[b];
-            if !kind && waiting && !storage.stopped && !(put_off && would_take(storage.register(department), a)) {
+            if !kind && waiting && !storage.away && !(put_off && would_take(storage.register(department), a)) {
                 return Some(Step::Serve { phase, attempt: row, at: b });
             }
         }
@@ -815,9 +1010,12 @@ fn worn(r: &mut Random, floor: &Floor, shared: &Shared, pressed: bool) -> Option
     let department = if r.percent(shared.sails) { Department::Sails } else { Department::Canvas };
     let w = shared.of(department);
     if r.below(1000) < w.stop {
-        let (at, answering) = (r.below(floor.boxes.len()), floor.boxes.iter().filter(|b| !b.stopped).count());
+        let (at, answering) = (r.below(floor.boxes.len()), boxes(floor, false).len());
         let spared = answering <= floor.quorum() && r.percent(80);
-        return Some(Step::Stop { at }).filter(|_| !floor.boxes[at].stopped && !spared);
+        return Some(Step::Stop { at }).filter(|_| !floor.boxes[at].away && !spared);
+    }
+    if r.below(1000) < w.back {
+        return returning(r, floor);
     }
     if r.below(1000) < w.gone {
         let station = r.below(floor.stations.len());
@@ -870,15 +1068,20 @@ fn worn(r: &mut Random, floor: &Floor, shared: &Shared, pressed: bool) -> Option
 /// A row given back at a run's last begin, and the answers of the attempt before that it dropped.
 type Dropped = (usize, Vec<(Phase, usize)>);
 
-/// Steps that are all accepted, `most` at most, and the floor behind them. In some of the runs no write is put off towards the end, and
-/// some end at a begin that drops the answer to a write: the one of that number.
+/// Steps that are all accepted, `most` at most, and the floor behind them. In some of the runs no write is put off towards the end, in some
+/// a box is away from the start, and some end at a begin that drops the answer to a write: the one of that number.
 fn worn_steps(r: &mut Random, shared: &Shared, head: &Head, most: usize, last: usize) -> (Vec<[u8; 8]>, Floor, Option<Dropped>) {
     let (mut floor, mut records) = (head.floor(), Vec::new());
+    if head.n > 2 && r.percent(shared.away) {
+        let at = r.below(head.n);
+        tried(&mut floor, &mut records, Step::Stop { at });
+    }
     let early = most - r.pick(&[0, 10, 20, 40]) * head.n;
     let (mut tried, mut drops) = (0, 0);
     while records.len() < most && tried < 60 {
         tried += 1;
-        let Some(step) = worn(r, &floor, shared, tried > 30 || records.len() > early) else { continue };
+        let step = if tried > 30 { returns(r, &floor, shared) } else { None };
+        let Some(step) = step.or_else(|| worn(r, &floor, shared, tried > 30 || records.len() > early)) else { continue };
         tried = 0;
         let dropped = dropped(&floor, step);
         let state = if let Step::Gone { station } = step { floor.stations[station].state } else { State::Idle };
@@ -898,8 +1101,17 @@ fn worn_steps(r: &mut Random, shared: &Shared, head: &Head, most: usize, last: u
         if let Some(row) = ended {
             clear(r, shared.of(Department::of_row(row)), &mut floor, &mut records, row, most);
         }
+        if let Step::Back { at } = step {
+            catch_up(r, shared, &mut floor, &mut records, at, most);
+        }
     }
     (records, floor, None)
+}
+
+/// A box that comes back where little else is left to do, now and then, if boxes do so in this run.
+fn returns(r: &mut Random, floor: &Floor, shared: &Shared) -> Option<Step> {
+    let back = shared.wear.iter().any(|w| w.back > 0) && r.percent(10);
+    returning(r, floor).filter(|_| back)
 }
 
 /// The row that a begin takes and the answers that it drops.
@@ -924,6 +1136,19 @@ fn clear(r: &mut Random, w: &Wear, floor: &mut Floor, records: &mut Vec<[u8; 8]>
     for step in left.into_iter().take(most - records.len()) {
         floor.step(step).expect("the request waits");
         records.push(encode(step));
+    }
+}
+
+/// Serves what waited at a box that is back, of attempts that are over, where the run is driven like that.
+fn catch_up(r: &mut Random, shared: &Shared, floor: &mut Floor, records: &mut Vec<[u8; 8]>, b: usize, most: usize) {
+    let rows: Vec<usize> = floor.rows.keys().copied().filter(|row| floor.over(*row)).collect();
+    for row in rows {
+        let served = r.percent(shared.of(Department::of_row(row)).caught_up);
+        for phase in [Phase::Read, Phase::Write].into_iter().filter(|_| served) {
+            if records.len() < most {
+                tried(floor, records, Step::Serve { phase, attempt: row, at: b });
+            }
+        }
     }
 }
 
@@ -956,15 +1181,27 @@ fn meant_for_another(r: &mut Random, floor: &mut Floor, records: &mut Vec<[u8; 8
     }
 }
 
+/// Which run through more attempts than rows: one at some boxes, one of many attempts, or one in which a box is away from the start.
+#[derive(Clone, Copy, PartialEq)]
+enum Through {
+    Some,
+    Many,
+    Away,
+}
+
 /// The head of a run through more attempts than rows: in version 2 mostly with as many stations in one department as in the other.
-fn worn_head(r: &mut Random, many: bool) -> Head {
-    let n = if many { r.pick(&[1, 1, 1, 2, 3]) } else { r.pick(&[1, 1, 2, 2, 3, 3, 3, 4, 4, 5, 6, 7, 8, 9]) };
+fn worn_head(r: &mut Random, through: Through) -> Head {
+    let n = match through {
+        Through::Some => r.pick(&[1, 1, 2, 2, 3, 3, 3, 4, 4, 5, 6, 7, 8, 9]),
+        Through::Many => r.pick(&[1, 1, 1, 2, 3]),
+        Through::Away => r.pick(&[3, 3, 3, 4, 5]),
+    };
     let version = version(r);
-    let m = match (version, many) {
-        (1, true) => r.pick(&[2, 3, 16]),
-        (1, false) => r.pick(&[2, 3, 4, 6, 8, 12, 16, 16, 16]),
-        (_, true) => r.pick(&[4, 6, 16]),
-        (_, false) => r.pick(&[4, 6, 8, 12, 16, 16, 16]),
+    let m = match (version, through) {
+        (1, Through::Some) => r.pick(&[2, 3, 4, 6, 8, 12, 16, 16, 16]),
+        (1, _) => r.pick(&[2, 3, 16]),
+        (_, Through::Some) => r.pick(&[4, 6, 8, 12, 16, 16, 16]),
+        _ => r.pick(&[4, 6, 16]),
     };
     if version == 2 && r.percent(70) {
         return Head { version, n, departments: (0..m).map(|s| (s % 2) as u8).collect() };
@@ -974,11 +1211,21 @@ fn worn_head(r: &mut Random, many: bool) -> Head {
 
 /// A run through more attempts than there are rows, accepted whole, or turned back at its last step or before.
 fn given_back(r: &mut Random) -> Vec<u8> {
-    let many = r.percent(5);
-    let head = worn_head(r, many);
-    let driven = [0, 1].map(|_| if many { brisk(r) } else { wear(r, head.n, head.m()) });
-    let shared = shared(r, &head, driven);
-    let most = if many || r.percent(5) { 4096 } else { 100 * head.n + r.pick(&[300, 300, 500, 800, 1500]) };
+    let through = match r.below(20) {
+        0 => Through::Many,
+        1..=5 => Through::Away,
+        _ => Through::Some,
+    };
+    let head = worn_head(r, through);
+    let back = if through == Through::Away { r.pick(&[0, 0, 0, 1, 2, 20]) } else { 0 };
+    let driven = [0, 1].map(|_| if through == Through::Some { wear(r, head.n, head.m()) } else { brisk(r, back) });
+    let away = [15, 0, 100][through as usize];
+    let shared = shared(r, &head, driven, away);
+    let most = match through {
+        Through::Some if !r.percent(5) => 100 * head.n + r.pick(&[300, 300, 500, 800, 1500]),
+        Through::Away => r.pick(&[1200, 2000]),
+        _ => 4096,
+    };
     // where both departments have a share in the steps, as many for each
     let twice = if (40..=60).contains(&shared.sails) { 2 } else { 1 };
     let last = if r.percent(20) { r.between(1, 12) } else { 0 };
@@ -999,33 +1246,29 @@ fn given_back(r: &mut Random) -> Vec<u8> {
     records.truncate(4096);
     let length = r.between(1, 24);
     let name = label(r, length);
-    frame(&head, &name, &records)
+    frame(r, &head, &name, &records)
 }
 
 /// A record that is turned back, and what follows it. Where a department has no row, a begin of the other may come first.
 fn worn_end(r: &mut Random, floor: &mut Floor, records: &mut Vec<[u8; 8]>, full: bool) {
-    let refusal = if full { r.pick(&[12, 12, 12, 12, 12, 11, 11, 10, 9, 9, 8]) } else { r.pick(&[14, 14, 14, 13, 11, 10, 9, 8, 8]) };
+    let refusal = if full { r.pick(&[12, 12, 12, 12, 12, 11, 11, 10, 9, 9, 8]) } else { r.pick(&[14, 14, 14, 13, 23, 11, 10, 9, 8, 8]) };
     let first = match refusal {
         9 => Some(leaver(r, floor)),
         _ if full => begin(r, floor, &DEPARTMENTS, 0, 30),
         _ => None,
     };
-    if let Some(step) = first.filter(|step| floor.step(*step).is_ok()) {
-        records.push(encode(step));
+    if let Some(step) = first {
+        tried(floor, records, step);
     }
-    if let Some(record) = turned_back(r, floor, refusal) {
-        records.push(record);
-        more(r, floor, records);
-    }
+    let record = turned_back(r, floor, refusal);
+    refused_last(r, floor, records, record);
 }
 
 fn short_run(r: &mut Random) -> Vec<u8> {
     let head = head(r);
     let most = r.below(60);
     let (records, _) = accepted_steps(r, &head, most);
-    let length = r.between(1, 32);
-    let name = label(r, length);
-    frame(&head, &name, &records)
+    named(r, &head, &records)
 }
 
 /// A file that is right but for the length of its label, which may be too long or nothing at all.
@@ -1034,7 +1277,7 @@ fn mislabelled(r: &mut Random) -> Vec<u8> {
     let (records, _) = accepted_steps(r, &head, 10);
     let length = r.pick(&[0, 1, 32, 33, 33, 34, 64, 127, 255]);
     let name = label(r, length);
-    frame(&head, &name, &records)
+    frame(r, &head, &name, &records)
 }
 
 /// One to three faults in the header, so that the order of the checks shows.
@@ -1092,7 +1335,7 @@ fn miscalled(r: &mut Random) -> Vec<u8> {
     let (records, _) = accepted_steps(r, &head, 12);
     let length = r.between(1, 32);
     let name = label(r, length);
-    let mut file = frame(&head, &name, &records);
+    let mut file = frame(r, &head, &name, &records);
     let (first, any) = (behind_label(&file), r.below(m));
     let one = first + r.pick(&[0, m - 1, any]);
     match r.below(10) {
@@ -1128,7 +1371,7 @@ fn sized(r: &mut Random) -> Vec<u8> {
     let length = if r.percent(60) { size.saturating_sub(6 + count) % 8 } else { r.between(1, 32) };
     let name = label(r, length);
     let records = if r.percent(50) { vec![encode(Step::Begin { station: 0, round: 1, revision: 7 })] } else { Vec::new() };
-    let mut file = frame(&head, &name, &records);
+    let mut file = frame(r, &head, &name, &records);
     file.resize(size, 0);
     sign(&mut file);
     file
@@ -1151,7 +1394,7 @@ fn crowded(r: &mut Random) -> Vec<u8> {
         records.push(encode(about(r, &floor)));
     }
     let name = label(r, length);
-    frame(&head, &name, &records)
+    frame(r, &head, &name, &records)
 }
 
 /// Where the department bytes of a file stand, or its records.
@@ -1179,7 +1422,7 @@ fn wild_records(r: &mut Random) -> Vec<u8> {
         records.push(record);
     }
     let name = label(r, 4);
-    frame(&head, &name, &records)
+    frame(r, &head, &name, &records)
 }
 
 fn noise(r: &mut Random) -> Vec<u8> {

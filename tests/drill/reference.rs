@@ -41,7 +41,10 @@ pub enum Step {
     Begin { station: usize, round: u32, revision: u32 },
     Serve { phase: Phase, attempt: usize, at: usize },
     Deliver { phase: Phase, attempt: usize, from: usize },
+    /// kinds 6 and 8
     Stop { at: usize },
+    /// kind 9
+    Back { at: usize },
     Gone { station: usize },
 }
 
@@ -61,6 +64,7 @@ pub enum Said {
     Decided(u32),
     Aborted(usize),
     Stopped(usize),
+    Back(usize),
     Gone(usize),
 }
 
@@ -95,7 +99,8 @@ pub struct Register {
 pub struct StorageBox {
     pub sails: Register,
     pub canvas: Register,
-    pub stopped: bool,
+    /// Document 02, wish 8: a box that is away serves nothing and keeps its records.
+    pub away: bool,
 }
 
 #[derive(Clone, Copy, Debug, PartialEq)]
@@ -178,7 +183,7 @@ impl Floor {
     /// A new floor of n boxes, with a station for each department named.
     pub fn new(n: usize, departments: &[Department]) -> Floor {
         let register = Register { read_rank: 0, held: None };
-        let storage_box = StorageBox { sails: register.clone(), canvas: register, stopped: false };
+        let storage_box = StorageBox { sails: register.clone(), canvas: register, away: false };
         let station = |d: &Department| Station { department: *d, state: State::Idle, last_round: 0, last_rank: 0, decided: None };
         Floor { boxes: vec![storage_box; n], stations: departments.iter().map(station).collect(), rows: BTreeMap::new() }
     }
@@ -199,11 +204,11 @@ impl Floor {
         state != State::Reading(row) && state != State::Writing(row)
     }
 
-    /// Document 02, wish 5: a row is free once its attempt is over and its issued requests are served at every box not stopped.
+    /// Document 02, wishes 5 and 8: a row is free once its attempt is over and its issued requests are served at every box, away or not.
     pub fn free(&self, row: usize) -> bool {
         let attempt = &self.rows[&row];
         let waits = |b: usize| attempt.reads[b] == Request::Waiting || attempt.writes[b] == Request::Waiting;
-        self.over(row) && (0..self.boxes.len()).all(|b| self.boxes[b].stopped || !waits(b))
+        self.over(row) && (0..self.boxes.len()).all(|b| !waits(b))
     }
 
     /// Document 02, wishes 5 and 6: the row of its department that a begin takes: the next unused one. With all used it is the free one
@@ -228,14 +233,8 @@ impl Floor {
             Step::Serve { phase, attempt, at } => self.serve(phase, attempt, at),
             Step::Deliver { phase: Phase::Read, attempt, from } => self.deliver_read(attempt, from),
             Step::Deliver { phase: Phase::Write, attempt, from } => self.deliver_write(attempt, from),
-            Step::Stop { at } => {
-                let storage = self.boxes.get_mut(at).ok_or(8)?;
-                if storage.stopped {
-                    return Err(13);
-                }
-                storage.stopped = true;
-                Ok(Said::Stopped(at))
-            }
+            Step::Stop { at } => self.stop(at),
+            Step::Back { at } => self.back(at),
             Step::Gone { station } => {
                 let s = self.stations.get_mut(station).ok_or(8)?;
                 if s.state == State::Gone {
@@ -245,6 +244,26 @@ impl Floor {
                 Ok(Said::Gone(station))
             }
         }
+    }
+
+    /// Document 02, wish 8: the box is away. Its records stay, and what waits there waits on.
+    fn stop(&mut self, at: usize) -> Result<Said, Refusal> {
+        let storage = self.boxes.get_mut(at).ok_or(8)?;
+        if storage.away {
+            return Err(13);
+        }
+        storage.away = true;
+        Ok(Said::Stopped(at))
+    }
+
+    /// Document 02, wish 8: the box answers again, with the records it had.
+    fn back(&mut self, at: usize) -> Result<Said, Refusal> {
+        let storage = self.boxes.get_mut(at).ok_or(8)?;
+        if !storage.away {
+            return Err(23);
+        }
+        storage.away = false;
+        Ok(Said::Back(at))
     }
 
     fn begin(&mut self, station: usize, round: u32, revision: u32) -> Result<Said, Refusal> {
@@ -281,7 +300,7 @@ impl Floor {
     fn serve(&mut self, phase: Phase, number: usize, at: usize) -> Result<Said, Refusal> {
         let attempt = named(&mut self.rows, number)?;
         let b = self.boxes.get_mut(at).ok_or(8)?;
-        if b.stopped {
+        if b.away {
             return Err(13);
         }
         let register = b.register_mut(Department::of_row(number));
@@ -392,8 +411,11 @@ pub fn decode(record: &[u8]) -> Result<Step, Refusal> {
         3 if zero(3) => Step::Serve { phase: Phase::Write, attempt: one, at: two },
         4 if zero(3) => Step::Deliver { phase: Phase::Read, attempt: one, from: two },
         5 if zero(3) => Step::Deliver { phase: Phase::Write, attempt: one, from: two },
+        // document 02, wish 8: kind 6 is read as kind 8
         6 if zero(2) => Step::Stop { at: one },
         7 if zero(2) => Step::Gone { station: one },
+        8 if zero(2) => Step::Stop { at: one },
+        9 if zero(2) => Step::Back { at: one },
         _ => return Err(7),
     };
     Ok(step)
@@ -455,7 +477,7 @@ pub fn parts(file: &[u8]) -> Result<Parts<'_>, Refusal> {
     Ok(Parts { version, n, m, label, departments, records: rest.chunks(8) })
 }
 
-/// Document 02, wishes 1 and 6: the file of these parts, for a buffer of that many bytes.
+/// Document 02, wishes 1, 6 and 8: the file of these parts, for a buffer of that many bytes.
 pub fn write(room: usize, version: u8, n: u8, m: u8, label: &[u8], departments: &[u8], records: &[u8]) -> Result<Vec<u8>, Refusal> {
     let mut file = vec![0, 0, version, n, m, label.len() as u8];
     file.extend(label);
@@ -470,6 +492,7 @@ pub fn write(room: usize, version: u8, n: u8, m: u8, label: &[u8], departments: 
         (4, label.is_empty() || label.len() > 32 || label.iter().any(|b| *b < 33 || *b > 126)),
         (22, departments.len() != wanted || departments.iter().any(|d| *d > 1)),
         (5, records.len() % 8 != 0 || records.len() > 4096 * 8),
+        (7, records.chunks(8).any(|record| record[0] == 6)),
         (18, room < file.len()),
     ];
     match turned_away.iter().find(|(_, applies)| *applies) {

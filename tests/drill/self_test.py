@@ -2,9 +2,9 @@
 processors.
 
 The comparison, which uses the right reference, has to tell the faulty program from it, by what it prints or by how it ends. Where the
-fault names a claim that it breaks, one of demand 3 or the deletion, a comparison that uses the faulty reference, with no program, has to
-find that claim broken. A fault of the writer is put into the reference that the writer is compared with, and write.rs has to find the
-two different. `full` looks for a broken claim with the other faults too, wants none, and prints a line for each fault.
+fault names a claim that it breaks, one of demand 3, the deletion or the return of boxes, a comparison that uses the faulty reference, with
+no program, has to find that claim broken. A fault of the writer is put into the reference that the writer is compared with, and write.rs
+has to find the two different. `full` looks for a broken claim with the other faults too, wants none, and prints a line for each fault.
 """
 import concurrent.futures
 import os
@@ -21,7 +21,7 @@ text = (sources / "faults.txt").read_text()
 faults = re.findall(r"^# (.*)\nold: (.*)\nnew: (.*)\n(?:breaks: (\w+)\n)?(writer\n)?", text + "\n", re.M)
 assert len(faults) == len(re.findall(r"^old: ", text, re.M)), "faults.txt: an entry is not as its head says"
 named = {claim for _, _, _, claim, _ in faults if claim}
-assert named == {"agreement", "validity", "abort", "shown", "deletion"}, f"faults.txt breaks {sorted(named)}, which is not each claim"
+assert named == {"agreement", "validity", "abort", "shown", "deletion", "return"}, f"faults.txt breaks {sorted(named)}, which is not each claim"
 
 
 def rustc(folder, name, level):

@@ -1,6 +1,6 @@
 //! write COUNT SEED FOLDER [FILE ..]: holds the writer, called as C calls it, against the reference. Each FILE and each of COUNT generated
-//! drill files that is accepted is taken apart and written again; then 25 x COUNT sets of parts and buffers are written. Compared are the
-//! refusal, the size, and every byte of the buffer and about it.
+//! drill files that is accepted is taken apart and written again: without kind 6 it is the same file, with kind 6 it is turned back with 7.
+//! Then 25 x COUNT sets of parts and buffers are written. Compared are the refusal, the size, and every byte of the buffer and about it.
 mod generate;
 mod reference;
 
@@ -82,10 +82,20 @@ fn compare(h: &Handed) -> Result<u32, String> {
     ))
 }
 
-/// An accepted file, taken apart and written again: into a buffer of its size, a longer one, and one that is a byte short.
-fn again(file: &[u8]) -> Result<bool, String> {
-    let Ok(parts) = reference::parts(file) else { return Ok(false) };
+/// What became of a file that is written again.
+#[derive(Clone, Copy, PartialEq)]
+enum Again {
+    NotAccepted,
+    Same,
+    TurnedBack,
+}
+
+/// An accepted file, taken apart and written again: into a buffer of its size, a longer one, and one that is a byte short. With a record of
+/// kind 6 it is turned back with 7, whatever the buffer.
+fn again(file: &[u8]) -> Result<Again, String> {
+    let Ok(parts) = reference::parts(file) else { return Ok(Again::NotAccepted) };
     let records: Vec<u8> = parts.records.clone().flatten().copied().collect();
+    let six = parts.records.clone().any(|record| record[0] == 6);
     for room in [file.len(), file.len() + 9, file.len() - 1] {
         let buffer: Vec<u8> = (0..room).map(|at| (at * 7 + 3) as u8).collect();
         let h = Handed {
@@ -100,11 +110,12 @@ fn again(file: &[u8]) -> Result<bool, String> {
         compare(&h)?;
         let (refusal, size, left) = written(&h)?;
         let same = refusal == 0 && size == file.len() && left[..size] == *file;
-        if same != (room >= file.len()) {
-            return Err(format!("written again into {room} bytes, refusal {refusal}, it is not the same file"));
+        let turned_back = refusal == if six { 7 } else { 18 } && size == 0 && left == h.buffer;
+        if !(if six || room < file.len() { turned_back } else { same }) {
+            return Err(format!("written again into {room} bytes, refusal {refusal}, it is not the same file, or is not turned back"));
         }
     }
-    Ok(true)
+    Ok(if six { Again::TurnedBack } else { Again::Same })
 }
 
 fn fail(folder: &Path, name: &str, file: &[u8], why: &str) -> ! {
@@ -123,10 +134,10 @@ fn main() {
     let folder = Path::new(&words[3]);
     let shipped = words[4..].iter().map(|path| (path.clone(), std::fs::read(path).expect("a FILE can be read")));
     let generated = (0..count).map(|number| (format!("file {number} of seed {seed}"), generate::file(seed, number)));
-    let mut files = 0;
+    let (mut same, mut turned_back) = (0, 0);
     for (name, file) in shipped.chain(generated) {
         match again(&file) {
-            Ok(accepted) => files += accepted as u64,
+            Ok(came) => (same, turned_back) = (same + (came == Again::Same) as u64, turned_back + (came == Again::TurnedBack) as u64),
             Err(why) => fail(folder, &name, &file, &why),
         }
     }
@@ -142,8 +153,8 @@ fn main() {
         }
     }
     // each answer came, about one time in a hundred or more often
-    for refusal in [0, 2, 3, 4, 22, 5, 18] {
+    for refusal in [0, 2, 3, 4, 22, 5, 7, 18] {
         assert!(times.get(&refusal).is_some_and(|t| 100 * t >= 25 * count), "refusal {refusal} came too seldom: {times:?}");
     }
-    println!("write: {files} files written again, {} sets of parts compared", 25 * count);
+    println!("write: {same} files written again, {turned_back} turned back for kind 6, {} sets of parts compared", 25 * count);
 }

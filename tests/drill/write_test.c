@@ -1,5 +1,5 @@
-/* Document 01's example of a drill file, and the same drill in version 2 with its station in the canvas department, written from C and
- * from C++ as the header says. Prints nothing; any failure ends it with another exit status than 0. */
+/* Document 01's example of a drill file, the same drill in version 2 with its station in the canvas department, and records of the kinds
+ * 6, 8 and 9, written from C and from C++ as the header says. Prints nothing; any failure ends it with another exit status than 0. */
 #include "drill_writer.h"
 
 #include <string.h>
@@ -42,5 +42,30 @@ int main(void) {
     if (drill_write(buffer, 51, 2, 1, 1, label, 4, departments, 1, records, 40, &size) != DRILL_WRITTEN || size != 51) return 17;
     if (memcmp(buffer, front, 11) != 0 || memcmp(buffer + 11, records, 40) != 0) return 18;
     if (memcmp(buffer + 51, before + 51, sizeof buffer - 51) != 0) return 19;
+
+    /* a record of kind 6, the first, one between and the last: turned back whatever the buffer, behind 22 and 5 */
+    memcpy(buffer, before, sizeof buffer);
+    for (size_t nth = 0; nth < 5; nth++) {
+        uint8_t stops[40];
+        memcpy(stops, records, 40);
+        stops[8 * nth] = 6;
+        for (size_t room = 0; room <= 60; room++) {
+            if (drill_write(buffer, room, 1, 1, 1, label, 4, departments, 0, stops, 40, &size) != DRILL_REFUSED_KIND || size != 0) return 20;
+            if (drill_write(buffer, room, 2, 1, 1, label, 4, departments, 1, stops, 40, &size) != DRILL_REFUSED_KIND || size != 0) return 21;
+        }
+        if (drill_write(buffer, 60, 1, 1, 1, label, 4, departments, 1, stops, 40, &size) != DRILL_REFUSED_DEPARTMENTS || size != 0) return 22;
+        if (drill_write(buffer, 60, 1, 1, 1, label, 4, departments, 0, stops, 39, &size) != DRILL_REFUSED_RECORDS || size != 0) return 23;
+    }
+    if (memcmp(buffer, before, sizeof buffer) != 0) return 24;
+
+    /* kinds 8 and 9, and the byte 6 in other places of a record: written as they are */
+    for (size_t at = 0; at < 16; at++) {
+        uint8_t back[16] = {8, 0, 0, 0, 0, 0, 0, 0, 9, 0, 0, 0, 0, 0, 0, 0};
+        if (at % 8 != 0) back[at] = 6;
+        memcpy(buffer, before, sizeof buffer);
+        if (drill_write(buffer, 26, 1, 1, 1, label, 4, departments, 0, back, 16, &size) != DRILL_WRITTEN || size != 26) return 25;
+        if (memcmp(buffer + 10, back, 16) != 0 || memcmp(buffer + 26, before + 26, sizeof buffer - 26) != 0) return 26;
+        if (drill_write(buffer, 25, 1, 1, 1, label, 4, departments, 0, back, 16, &size) != DRILL_REFUSED_BUFFER || size != 0) return 27;
+    }
     return 0;
 }

@@ -1,4 +1,4 @@
-/* What both tests use: checks, counted; numbers of four bytes, big-endian; and pseudo-random numbers. Valid C99 and C++11. */
+/* What the tests use: checks, counted; numbers of four bytes, big-endian; and pseudo-random numbers. Valid C99 and C++11. */
 #ifndef CHECK_H
 #define CHECK_H
 
@@ -20,7 +20,7 @@ static void check_in(const char *file, int line, int holds, const char *what) {
 #define check(holds, line, what) check_in(__FILE__, line, holds, what)
 #define CHECK(x) check((x) ? 1 : 0, __LINE__, #x)
 
-static uint32_t get(const uint8_t *p) {
+static inline uint32_t get(const uint8_t *p) { /* inline: not every test uses it */
     return (uint32_t)p[0] << 24 | (uint32_t)p[1] << 16 | (uint32_t)p[2] << 8 | (uint32_t)p[3];
 }
 

@@ -3,7 +3,7 @@
 //     f0 boxes stations rows canvas                      how many there are, of rows how many are in use, in sails and in canvas
 //     f1 row station readers writers                     the station of a row, and its masks of the boxes whose answers were
 //                                                        received; those to reads say what the box held
-//     f2 box read write value stopped department         the department's record of a box, and whether the box has stopped
+//     f2 box read write value away department            the department's record of a box, and whether the box is away
 //     f3 station state attempt last decided department told
 //                                                        a station; its state counts from 0, in the order of `State`; it decided
 //                                                        nothing where both the revision and the last byte are 0, else the

@@ -32,14 +32,14 @@ fn second(r: [u8; 8]) -> u32 {
 // A record. Only a begin has a third number.
 pub(crate) fn record(r: [u8; 8]) {
     let kind = r[0];
-    if 7 < kind {
+    if 9 < kind {
         text::fill(b"a record of kind %", &[kind as u64]);
         return;
     }
     text::pick(
         b"a record of kind 0|begin: station %, round %, revision %|serve the read of attempt % at box %\
         |serve the write of attempt % at box %|deliver the read answer of attempt % from box %\
-        |deliver the write answer of attempt % from box %|stop box %|station % goes",
+        |deliver the write answer of attempt % from box %|stop box %|station % goes|stop box %|box % comes back",
         kind,
         &[
             r[1] as u64,
@@ -94,7 +94,7 @@ pub(crate) fn change(r: [u8; 8]) {
     text::pick(
         b"by hand: boxes %, stations %, rows in use %\
         |by hand: row % of station %, read answers received by mask %, write answers by mask %\
-        |by hand: box % read rank %, write rank %, value %, stopped % (0 no, 1 yes)\
+        |by hand: box % read rank %, write rank %, value %, away % (0 no, 1 yes)\
         |by hand: station % in state % (0 idle, 1 reading, 2 writing, 3 decided, 4 gone), attempt %, last round %, \
         decided revision ",
         r[0] % 16,
@@ -160,11 +160,11 @@ pub(crate) fn refusal(k: u8) {
         |refusal % (not whole records, or more than 4,096)|refusal % (floor not sound)\
         |refusal % (kind, or a byte that should be zero)|refusal % (no such station, box or attempt)\
         |refusal % (station gone)|refusal % (station reading, writing or decided)|refusal % (round)\
-        |refusal % (no row unused or free)|refusal % (box stopped)|refusal % (not waiting, or not on the way)\
-        |refusal % (fewer than q boxes not stopped)|refusal %|refusal %|refusal % (buffer shorter than the file)\
+        |refusal % (no row unused or free)|refusal % (box away)|refusal % (not waiting, or not on the way)\
+        |refusal % (fewer than q boxes not away)|refusal %|refusal %|refusal % (buffer shorter than the file)\
         |refusal % (length of the frame)|refusal % (version of the frame)|refusal % (kind, or rank 0)\
-        |refusal % (departments)|refusal %",
-        at_most(23, k),
+        |refusal % (departments)|refusal % (box not away)|refusal %",
+        at_most(24, k),
         &[k as u64],
     );
 }
@@ -172,7 +172,7 @@ pub(crate) fn refusal(k: u8) {
 // Prints a number behind the word of that number.
 fn said(place: u8, value: u32) {
     text::pick(
-        b"begun %|served %|received %|aborted %|write issued %|decided %|stopped %|gone %",
+        b"begun %|served %|received %|aborted %|write issued %|decided %|stopped %|gone %|back %",
         place,
         &[value as u64],
     );
@@ -189,6 +189,7 @@ pub(crate) fn outcome(o: Outcome) {
         Outcome::Decided(v) => said(5, v),
         Outcome::Stopped(b) => said(6, b as u32),
         Outcome::Gone(s) => said(7, s as u32),
+        Outcome::Back(b) => said(8, b as u32),
         Outcome::Refused(k) => refusal(k),
     }
 }
@@ -287,7 +288,7 @@ fn canvas_record(r: Register) {
     );
 }
 
-// A box: the record of sails, that of canvas, and whether it has stopped.
+// A box: the record of sails, that of canvas, and whether it is away.
 fn storage(number: u8, b: StorageBox) {
     let r = b.sails;
     let c = b.canvas;
@@ -296,7 +297,7 @@ fn storage(number: u8, b: StorageBox) {
         &[number as u64, r.read as u64, r.write as u64, r.value as u64],
     );
     canvas_record(c);
-    text::pick(b"|, stopped", b.away as u8, &[]);
+    text::pick(b"|, away", b.away as u8, &[]);
 }
 
 fn box_line(number: u8, b: StorageBox) {

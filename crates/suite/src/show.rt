@@ -24,19 +24,25 @@ fn records(file: &[u8]) -> &[u8] {
     text::from(behind_label(file), told(file) as usize)
 }
 
-// The step that a refusal turned back; 1 to 5 and 22 are of the file.
-fn turned_back(file: &[u8], accepted: usize, refusal: u8) {
+// Whether a refusal is of a step; 1 to 5 and 22 are of the file.
+fn of_step(refusal: u8) -> bool {
     match refusal {
-        6..=14 => {
-            text::print(b" of the step: ");
-            say::record(text::record(records(file), accepted));
-        }
-        _ => {}
+        6..=14 => true,
+        23 => true,
+        _ => false,
     }
 }
 
-// How many steps of a file were accepted, and the refusal, with the step that it turned back; and whether the file, if it is accepted,
-// is the same when it is written again.
+// The step that a refusal turned back.
+fn turned_back(file: &[u8], accepted: usize, refusal: u8) {
+    if of_step(refusal) {
+        text::print(b" of the step: ");
+        say::record(text::record(records(file), accepted));
+    }
+}
+
+// How many steps of a file were accepted, and the refusal, with the step that it turned back; and what comes of writing the file
+// again, if it is accepted.
 fn ended(file: &[u8], accepted: usize, refusal: u8) {
     text::fill(b"accepted %, ", &[accepted as u64]);
     say::refusal(refusal);
@@ -103,11 +109,11 @@ fn tallies(f: Floor, count: u8, department: u8) -> Floor {
     let u = tally::tally_lent(hand::sixteen(boxes), count, d);
     text::pick(b"|canvas: ", say::code(d), &[]);
     text::fill(
-        b"tally of the first % boxes -> not stopped %, highest write rank %; ",
+        b"tally of the first % boxes -> not away %, highest write rank %; ",
         &[count as u64, t.count as u64, t.highest as u64],
     );
     text::fill(
-        b"of a lent run of % -> not stopped %, highest write rank %",
+        b"of a lent run of % -> not away %, highest write rank %",
         &[count as u64, u.count as u64, u.highest as u64],
     );
     f
@@ -124,7 +130,7 @@ fn run_of(f: Floor, bytes: &[u8]) -> Floor {
     played.floor
 }
 
-// A run of the last bytes of three records, the stop of box 0, of box 1, and of box 0 again.
+// A run of the last bytes of three records of kind 6, the stop of box 0, of box 1, and of box 0 again.
 fn run_of_bytes(f: Floor, size: u8) -> Floor {
     let count = size % 25;
     let stops: [u8; 24] = [

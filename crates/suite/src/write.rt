@@ -61,6 +61,15 @@ pub(crate) fn bytes(buffer: &[u8], end: usize) {
     text::print(b"\n");
 }
 
+// A refusal of the writer with its cause.
+fn refusal(k: u8) {
+    if k == 7 {
+        text::print(b"refusal 7 (a record of kind 6)");
+        return;
+    }
+    say::refusal(k);
+}
+
 // Writes a file of these parts, and shows the buffer: the file, a stroke, and what stands behind it.
 fn shown(
     buffer: &mut [u8],
@@ -73,7 +82,7 @@ fn shown(
 ) {
     let written = drill_file::write_file(buffer, version, n, m, label, departments, records);
     text::fill(b" -> size %, ", &[written.size as u64]);
-    say::refusal(written.refusal);
+    refusal(written.refusal);
     bytes(buffer, written.size);
 }
 
@@ -126,8 +135,35 @@ pub(crate) fn composed(words: &[u8], bytes: &[u8]) {
     );
 }
 
-// Whether a file, taken apart and written into a buffer, is the same, and the bytes behind it are as they were: those of `before`.
-fn again(buffer: &mut [u8], before: &[u8], file: &[u8], n: u8, m: u8, start: usize) -> bool {
+// Whether the writer left a file of that size in a buffer, and behind it what was there before.
+fn left(buffer: &[u8], before: &[u8], size: usize, file: &[u8]) -> bool {
+    if size != file.len() {
+        return false;
+    }
+    if !same(text::up_to(buffer, size), file) {
+        return false;
+    }
+    same(text::from(buffer, size), text::from(before, size))
+}
+
+// Says whether a file that was written again is the same, or that it was refused; the buffer was as `before`.
+fn said(buffer: &[u8], before: &[u8], file: &[u8], size: usize, k: u8) {
+    if k == 0 {
+        if left(buffer, before, size, file) {
+            text::print(b"the same");
+            return;
+        }
+        text::print(b"ANOTHER FILE");
+        return;
+    }
+    refusal(k);
+    if !left(buffer, before, size, &[]) {
+        text::print(b", THE BUFFER CHANGED");
+    }
+}
+
+// Takes a file apart, writes it into a buffer, and says what came of it.
+fn again(buffer: &mut [u8], before: &[u8], file: &[u8], n: u8, m: u8, start: usize) {
     let label = drill_file::label(file);
     let written = drill_file::write_file(
         buffer,
@@ -138,16 +174,8 @@ fn again(buffer: &mut [u8], before: &[u8], file: &[u8], n: u8, m: u8, start: usi
         drill_file::departments(file),
         text::from(file, start),
     );
-    if written.size != file.len() {
-        return false;
-    }
-    if !same(text::up_to(buffer, file.len()), file) {
-        return false;
-    }
-    same(
-        text::from(buffer, file.len()),
-        text::from(before, file.len()),
-    )
+    text::print(b"; written again: ");
+    said(buffer, before, file, written.size, written.refusal);
 }
 
 // Says it of an accepted file.
@@ -158,11 +186,7 @@ pub(crate) fn accepted(file: &[u8]) {
         Header::Accepted { n, m, start, .. } => {
             let before = [0xeeu8; 32832];
             let mut buffer = [0xeeu8; 32832];
-            if again(&mut buffer, &before, file, n, m, start) {
-                text::print(b"; written again: the same");
-                return;
-            }
-            text::print(b"; written again: ANOTHER FILE");
+            again(&mut buffer, &before, file, n, m, start);
         }
     }
 }
