@@ -27,8 +27,7 @@ use Rattle.solo.specs.Claims.{Ready}
 use Rattle.solo.proofs.RoundLaws.{round-smallest}
 use Rattle.floor.specs.Runs.{floorAt}
 use Rattle.agreement.specs.Words.{Answering, IdleAt, RowLeft, RoundLeft}
-use Rattle.agreement.proofs.Reach.{New}
-use Rattle.agreement.proofs.Positions.{size-at}
+use Rattle.agreement.proofs.Reach.{New, size-at}
 use Rattle.agreement.proofs.Standing.{department-at, stations-at, answering-means, idle-state, round-outranks}
 use Rattle.agreement.proofs.FreeRows.{row-left}
 

@@ -56,8 +56,8 @@ use Rattle.base.proofs.Cases.{clash}
 use Rattle.agreement.specs.Words.{commandAt}
 use Rattle.agreement.specs.Demand.{firstFloor}
 use Rattle.agreement.specs.Chain.{bytesAt, answerAt, InC, requestAt, answeredAt, FramedInC, ServedInC, Chain}
-use Rattle.agreement.proofs.Reach.{New, new-floor}
-use Rattle.agreement.proofs.Positions.{reached-at, lengths-at, means-at}
+use Rattle.agreement.proofs.Reach.{New, new-floor, lengths-at}
+use Rattle.agreement.proofs.Positions.{means-at, rank-positive}
 use Rattle.agreement.proofs.Safety.{served-at}
 use Rattle.agreement.proofs.Widths.{FloorFits, fits-at, new-fits}
 
@@ -166,8 +166,8 @@ module _ (f : Floor) (l : List (List ℕ)) (new : New f) (z : Sound f) (a i : �
   abbrev held : Register
   held = servedBy g a b
 
-  rank-positive : ¬ (w .rank ≡ 0)
-  rank-positive q = omega (arith, reached-at f l new (rowDepartment a) i .shows .rows a (refl, x .may .used) .positive, q)
+  not-zero : ¬ (w .rank ≡ 0)
+  not-zero q = omega (arith, rank-positive f l new i a (x .may .used), q)
 
   place : b < 9
   place = omega (arith, x .may .box, sound-at f l z i .box-most)
@@ -206,14 +206,14 @@ module _ (f : Floor) (l : List (List ℕ)) (new : New f) (z : Sound f) (a i : �
 
   call : (p : Phase) → x .phase ≡ p → InC f l p (w .rank) a b i
   call Read q = λ reply h.
-      let c = asked held (w .rank) rank-positive reply h _ refl in
+      let c = asked held (w .rank) not-zero reply h _ refl in
       record {
         returns = c .returns ∙ ap (λ (u : Bool). if u then 0 else 100) (sym (read-ok q));
         changes = c .changes ∙ ap encode (sym (read-register q));
-        answers = read-answers held (w .rank) rank-positive reply h ∙ ap (λ (v : Answer). replyOf (v .rank) (v .value)) (sym (read-answer q));
+        answers = read-answers held (w .rank) not-zero reply h ∙ ap (λ (v : Answer). replyOf (v .rank) (v .value)) (sym (read-answer q));
       }
   call Write q =
-      let c = called held (w .rank) rank-positive (w .written) _ refl in
+      let c = called held (w .rank) not-zero (w .written) _ refl in
       record {
         returns = c .returns ∙ ap (λ (t : Bool). if t then 0 else 100) (sym (write-ok q));
         changes = c .changes ∙ ap encode (sym (write-register q));
@@ -227,10 +227,10 @@ module _ (f : Floor) (l : List (List ℕ)) (new : New f) (z : Sound f) (a i : �
 
   framed : (p : Phase) → x .phase ≡ p → (behind buffer : List ℕ) → 12 ≤ length buffer → FramedInC f l (requestAt f l p (w .rank) a i) (answeredAt f l p a b (suc i)) a b i behind buffer
   framed Read q behind buffer h =
-      let c = read-framed held (w .rank) rank-positive behind buffer h in
+      let c = read-framed held (w .rank) not-zero behind buffer h in
       rw (said-answer Read q) (record { returns = c .returns; changes = c .changes ∙ ap encode (sym (read-register q)); answers = c .answers })
   framed Write q behind buffer h =
-      let c = write-framed held (w .rank) rank-positive behind buffer h (w .written) in
+      let c = write-framed held (w .rank) not-zero behind buffer h (w .written) in
       rw (said-answer Write q) (record { returns = c .returns; changes = c .changes ∙ ap encode (sym (write-register q)); answers = c .answers })
 
   bytes : FloorFits f → (k : ℕ) → AllRecords l → Bytes (bytesAt f l a b k)

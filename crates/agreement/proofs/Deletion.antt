@@ -33,8 +33,7 @@ use Rattle.floor.proofs.ListLaws.{sound-at}
 use Rattle.agreement.specs.Words.{commandAt}
 use Rattle.agreement.specs.Demand.{firstFloor}
 use Rattle.agreement.specs.Deletion.{keeps, keptOf, placeOf, DeletionTheorem}
-use Rattle.agreement.proofs.Reach.{New, new-floor}
-use Rattle.agreement.proofs.Positions.{lengths-at, owned-at}
+use Rattle.agreement.proofs.Reach.{New, new-floor, lengths-at, owned-at}
 use Rattle.agreement.proofs.Standing.{department-at}
 use Rattle.agreement.proofs.Alike.{Alike, KeptFor, AlikeStep, step-alike}
 

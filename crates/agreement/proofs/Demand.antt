@@ -38,8 +38,8 @@ use Rattle.solo.proofs.PlanRecords.{plan-records}
 use Rattle.agreement.specs.Words.{commandAt, DecidesAt}
 use Rattle.floor.specs.Runs.{floorAt, floorLeft, saidAt}
 use Rattle.agreement.specs.Demand.{firstFloor, DrivenAlone, Demand3Theorem}
-use Rattle.agreement.proofs.Reach.{New, new-floor}
-use Rattle.agreement.proofs.Positions.{size-at, means-at}
+use Rattle.agreement.proofs.Reach.{New, new-floor, size-at}
+use Rattle.agreement.proofs.Positions.{means-at}
 use Rattle.agreement.proofs.Safety.{decides-at, shown, safety}
 use Rattle.agreement.proofs.Standing.{department-at, own-department}
 use Rattle.floor.proofs.ListLaws.{floor-behind, said-behind, left-behind, said-taken, left-taken}

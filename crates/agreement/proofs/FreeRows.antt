@@ -34,26 +34,24 @@ use Rattle.attempts.specs.declared.State.the-variants.{Idle, Reading, Writing, 
 use Rattle.attempts.specs.declared.Station.{Station}
 use Rattle.attempts.specs.declared.Row.{Row}
 use Rattle.attempts.proofs.StationTests.{is-reading, is-writing, is-idle}
-use Rattle.floor.specs.Floors.{stationAt, rowAt, ownerAt, departmentAt, InUse}
+use Rattle.floor.specs.Floors.{stationAt, rowAt, ownerAt, InUse}
 use Rattle.floor.specs.Effects.{rowTaken, servedBy}
 use Rattle.floor.proofs.UseLaws.{in-use-most, use-of}
 use Rattle.floor.specs.Free.{isFree, nextRow}
 use Rattle.floor.specs.Step.{stepOf}
 use Rattle.floor.specs.Runs.{floorAt, saidAt}
-use Rattle.floor.specs.Claims.{Sound, Free, StationMove, station-kept, station-begins, station-issues, station-decides, station-aborts, station-leaves, RowMove, row-kept, row-begins, row-served, row-heard, row-issues, StandingMove, stands-kept, stands-new, stands-served, stands-received, stands-issued}
+use Rattle.floor.specs.Claims.{Sound, Free, StationMove, station-kept, station-begins, station-issues, station-decides, station-aborts, station-leaves, StandingMove, stands-kept, stands-new, stands-served, stands-received, stands-issued}
 use Rattle.floor.specs.declared.Floor.{Floor}
 use Rattle.floor.proofs.FreeLaws.{free-means, free-holds, next-unused, next-some}
-use Rattle.floor.proofs.Moves.{apply-station, apply-row}
+use Rattle.floor.proofs.Moves.{apply-station}
 use Rattle.floor.proofs.RowLaws.{apply-begun-use, used-stays}
 use Rattle.floor.proofs.StandingLaws.{is-waiting, apply-standing}
 use Rattle.floor.proofs.ListLaws.{sound-at}
-use Rattle.agreement.specs.Words.{Before, commandAt, Attempt, attemptDepartment, Named, OverAt, decided, aborted, gone, ServesAt, DeliversAt, IssuesAt, FreedAt, FreeAt, RowLeft, unused, free}
+use Rattle.agreement.specs.Words.{Before, commandAt, Attempt, Named, OverAt, decided, aborted, gone, ServesAt, DeliversAt, IssuesAt, FreedAt, FreeAt, RowLeft, unused, free}
 use Rattle.agreement.specs.Returns.{IssuedBefore}
 use Rattle.agreement.specs.GivenBack.{OwnAnswer}
-use Rattle.agreement.proofs.History.{UsedBy, StationShows, isWritten, served-written, heard-written}
-use Rattle.agreement.proofs.Reach.{New}
-use Rattle.agreement.proofs.Positions.{later, now, size-at, reached-at, lengths-at, owned-at, means-at, row-at}
-use Rattle.agreement.proofs.Deliveries.{owner-reads}
+use Rattle.agreement.proofs.Reach.{New, size-at, lengths-at}
+use Rattle.agreement.proofs.Positions.{later, now, means-at, row-at, reading-unissued}
 use Rattle.agreement.proofs.Safety.{one-attempt}
 use Rattle.agreement.proofs.Standing.{used-at, not-aborted}
 use Rattle.agreement.proofs.Consequences.{isOver, over-since, gone-since}
@@ -254,59 +252,20 @@ module _ (f : Floor) (l : List (List ℕ)) (new : New f) (z : Sound f) where
     | inr o ↦ stands-moves x p b i (o .0) (o .1) (standing-moves x p b i h (o .0)) refl (stands x p b h i (o .0))
   ]
 
-  -- a write that was issued stays so
-  served-still-written : (p : Phase) (w : Row) (g : Register) (b : ℕ) → isWritten (w .write) ≡ true → isWritten (rowServed p w g b .write) ≡ true
-  served-still-written Read w g b h = h
-  served-still-written Write w g b h = served-written (w .write) b _ h
-
-  written-moves : (x : Attempt f l) (i : ℕ) → Named f l x i → ¬ (saidAt f l i ≡ said.Begun (x .number)) → {o : Outcome} {w : Row}
-      → RowMove (at-floor i) (commandAt l i) (x .number) o w → saidAt f l i ≡ o → isWritten (rowAt (at-floor i) (x .number) .write) ≡ true → isWritten (w .write) ≡ true
-  written-moves x i n other row-kept e h = h
-  written-moves x i n other (row-begins c s q) e h = absurd (other (e ∙ ap said.Begun (sym q)))
-  written-moves x i n other (row-served {p = p} {b = b} c d) e h = served-still-written p (rowAt (at-floor i) (x .number)) _ b h
-  written-moves x i n other (row-heard {p = p} {b = b} c d k) e h = heard-written p (rowAt (at-floor i) (x .number)) b ∙ h
-  written-moves x i n other (row-issues c d r q t u) e h =
-      clash h (owner-reads (x .number) (reached-at f l new (attemptDepartment f l x) i .shows) (owned-at f l new i) (in-use x i n) r)
-
-  issued-now : (x : Attempt f l) (i : ℕ) → IssuesAt f l x i → isWritten (rowAt (at-floor (suc i)) (x .number) .write) ≡ true
-  issued-now x i d =
-      let m = means-at f l new i (said.WriteIssued (d .revision)) (d .accepted) in
-      let a : m .attempt ≡ x .number = cc (m .command, d .asked) in
-      let j = rowAt (at-floor i) (m .attempt) .station in
-      let d = departmentAt (at-floor (suc i)) j in
-      let s = reached-at f l new d (suc i) .shows .stations j refl in
-      let w = subst (StationShows (UsedBy d (at-floor (suc i))) (at-floor (suc i) .rows) j (stationAt (at-floor (suc i)) j .decided)) (ap (λ (t : Station). t .state) (m .owner)) s in
-      subst (λ (k : ℕ). isWritten (rowAt (at-floor (suc i)) k .write) ≡ true) a (w .2)
-
-  issued-written : (x : Attempt f l) (i : ℕ) → Named f l x i → Before (IssuesAt f l x) i → isWritten (rowAt (at-floor i) (x .number) .write) ≡ true
-  unfolding floorAt stepOf
-  issued-written x zero n d = absurd (omega (arith, n .earlier))
-  issued-written x (suc i) n d = elim (up-to (d .earlier)) [
-    | inl q ↦ issued-now x i (subst (IssuesAt f l x) q (d .holds))
-    | inr q ↦ elim (named-step x i n) [
-      | inl r ↦ absurd (omega (arith, d .holds .named .earlier))
-      | inr o ↦ written-moves x i (o .0) (o .1) (apply-row (at-floor i) (commandAt l i) (x .number)) refl
-          (issued-written x i (o .0) (record { at = d .at; earlier = q; holds = d .holds }))
-    ]
-  ]
-
   -- a request that was served is answered from then on
   module _ (x : Attempt f l) (p : Phase) (b i : ℕ) (n : Named f l x i) (other : ¬ (saidAt f l i ≡ said.Begun (x .number))) where
-    not-again : {s : Standing} → Stands x p b i s → isServed s ≡ true → p ≡ Write → isReading (ownerAt (at-floor i) (x .number) .state) (x .number) ≡ true → ⊥
-    not-again (none e) k q r = clash k refl
-    not-again (waits h) k q r = clash k refl
-    not-again (answered h s) k q r =
-        clash (issued-written x i n (subst (λ (y : Phase). Issued x p b y i) q h)) (owner-reads (x .number) (reached-at f l new (attemptDepartment f l x) i .shows) (owned-at f l new i) (in-use x i n) r)
-    not-again (heard h s d) k q r =
-        clash (issued-written x i n (subst (λ (y : Phase). Issued x p b y i) q h)) (owner-reads (x .number) (reached-at f l new (attemptDepartment f l x) i .shows) (owned-at f l new i) (in-use x i n) r)
+    not-yet : p ≡ Write → isReading (ownerAt (at-floor i) (x .number) .state) (x .number) ≡ true → isServed (standsAt x p b i) ≡ false
+    not-yet q r =
+        let j = rowAt (at-floor i) (x .number) .station in
+        rw q (ap isServed (reading-unissued f l new i j (x .number) (is-reading (stationAt (at-floor i) j .state) (x .number) r) b))
 
-    served-still : {o : Outcome} {s t : Standing} → StandingMove (at-floor i) (commandAt l i) (x .number) p b o s t → saidAt f l i ≡ o → Stands x p b i s
+    served-still : {o : Outcome} {s t : Standing} → StandingMove (at-floor i) (commandAt l i) (x .number) p b o s t → saidAt f l i ≡ o → standsAt x p b i ≡ s
         → isServed s ≡ true → isServed t ≡ true
     served-still stands-kept e h k = k
     served-still (stands-new q) e h k = absurd (other (e ∙ ap said.Begun q))
     served-still (stands-served c) e h k = refl
     served-still (stands-received c j) e h k = refl
-    served-still (stands-issued q c r) e h k = absurd (not-again h k q r)
+    served-still (stands-issued q c r) e h k = clash k (ap isServed (sym h) ∙ not-yet q r)
 
     issued-still : {o : Outcome} {s t : Standing} → StandingMove (at-floor i) (commandAt l i) (x .number) p b o s t → saidAt f l i ≡ o → wasIssued s ≡ true → wasIssued t ≡ true
     issued-still stands-kept e k = k
@@ -335,7 +294,7 @@ module _ (f : Floor) (l : List (List ℕ)) (new : New f) (z : Sound f) where
     | inl r ↦ absurd (omega (arith, d .holds .named .earlier, d .earlier))
     | inr o ↦ elim (up-to (d .earlier)) [
       | inl q ↦ served-now x p b i h (o .0) (subst (ServesAt f l x p b) q (d .holds))
-      | inr q ↦ served-still x p b i (o .0) (o .1) (standing-moves x p b i h (o .0)) refl (stands x p b h i (o .0))
+      | inr q ↦ served-still x p b i (o .0) (o .1) (standing-moves x p b i h (o .0)) refl refl
           (served-since x p b h i (o .0) (record { at = d .at; earlier = q; holds = d .holds }))
     ]
   ]

@@ -1,13 +1,6 @@
--- In layers, each resting on those before it: the history of a run and what it shows of the floor; each kind of step as a step of the
--- theory; the floors that a list reaches; the run by positions; safety; where stations and boxes stand; rows given back; boxes that come back; a station driven alone; demand 3; one department's steps deleted;
--- the widths of numbers and the box record in C; lists worked through; files.
-pub mod Edits
-pub mod History
-pub mod Serves
-pub mod Deliveries
-pub mod Issues
-pub mod Decisions
-pub mod Begins
+-- In layers, each resting on those before it: the floors that a list reaches, in each department a run of the machine (crates `machine` and
+-- `panel`); the run by positions; safety; where stations and boxes stand; rows given back; boxes that come back; a station driven alone;
+-- demand 3; one department's steps deleted; the widths of numbers and the box record in C; lists worked through; files.
 pub mod Reach
 pub mod Positions
 pub mod Safety

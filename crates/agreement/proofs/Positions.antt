@@ -1,32 +1,50 @@
--- The run by positions: the history before each, the attempt that a row in use belongs to, and what each decision and abort tells.
-use Prim.Native.Nat.{ℕ, zero, suc, _≤_}
-use native.Mathlib.Nat.{eq-or-lt-of-le}
+-- The run by positions: the attempt that a row in use belongs to, what each thing said means, and where a station that reads or writes is.
+use Prim.Native.Nat.{ℕ, zero, suc, _<_}
 use native.Mathlib.Omega.{arith}
 use mathlib.Core.Path.{_≡_, refl, sym, ap, subst, _∙_}
 use mathlib.Core.Logic.{inl, inr}
-use mathlib.Core.List.{List, [], _∷_, List·Memᴰ, List·Memᴰ·tail, List·Memᴰ·cases-cons, List·Memᴰ·not-nil}
+use mathlib.Core.List.{List, []}
 use lib.ListN.{getD}
 use Rattle.register.specs.declared.Department.{Department}
-use Rattle.register.specs.declared.Department.the-variants.{Sails}
-use Rattle.floor.specs.Floors.{rowAt, InUse}
-use Rattle.floor.specs.Departments.{Owned}
-use Rattle.floor.proofs.DepartmentLaws.{step-owned}
-use Rattle.attempts.specs.Rows.{newRow}
+use Rattle.requests.specs.Requests.{Standing, notIssued, notReceived, standing, standingOf, slotAt}
+use Rattle.requests.specs.declared.Phase.{Phase}
+use Rattle.requests.specs.declared.Phase.the-variants.{Write}
+use Rattle.requests.specs.declared.Stage.the-variants.{Unissued}
+use Rattle.floor.specs.Floors.{stationAt, rowAt, departmentAt, InUse}
+use Rattle.attempts.specs.Rows.{newRow, rowDepartment}
+use Rattle.attempts.specs.declared.State.{State}
+use Rattle.attempts.specs.declared.State.the-variants as state
 use Rattle.floor.specs.Step.{stepOf}
 use Rattle.attempts.specs.declared.Row.{Row}
 use Rattle.floor.specs.declared.Floor.{Floor}
+use Rattle.commands.specs.declared.Command.{Command}
+use Rattle.commands.specs.declared.Command.the-variants.{Serve}
 use Rattle.commands.specs.declared.Outcome.{Outcome}
 use Rattle.commands.specs.declared.Outcome.the-variants as said
 use Rattle.base.proofs.Cases.{up-to}
-use Rattle.floor.proofs.StepCases.{StepCase, step-case}
-use Rattle.floor.proofs.Keeps.{step-lengths, step-sizes}
+use Rattle.base.proofs.Choices.{by-test}
 use Rattle.floor.proofs.RowLaws.{apply-in-use, row-same}
-use Rattle.floor.specs.Claims.{Lengths, Meaning}
+use Rattle.floor.specs.Claims.{Meaning}
 use Rattle.floor.proofs.Outcomes.{step-means}
 use Rattle.agreement.specs.Words.{Before, commandAt, Attempt, attemptRank, Named}
 use Rattle.floor.specs.Runs.{floorAt, saidAt}
-use Rattle.agreement.proofs.History.{Happening, History}
-use Rattle.agreement.proofs.Reach.{eventOf, Reached, reached-next, Cause, cause, New, new-reached}
+use Rattle.machine.specs.Machine as machine
+use Rattle.machine.specs.Runs.{Safety}
+use Rattle.machine.proofs.Runs.{safety}
+use Rattle.machine.proofs.Consensus.{consensus-fits}
+use Rattle.panel.specs.Panel.{figure1, seatIn}
+use Rattle.panel.proofs.Simulation.{seen-own}
+use Rattle.agreement.proofs.Reach.{New, lengths-at, runIn}
+
+-- a rank is served by a serve of its attempt
+pub record Serving (d : Department) (f : Floor) (c : Command) (o : Outcome) (r b : ℕ) : Type 0 where
+  pub attempt : ℕ
+  pub of : rowDepartment attempt ≡ d
+  pub used : InUse f attempt
+  pub rank : rowAt f attempt .rank ≡ r
+  pub phase : Phase
+  pub asked : c ≡ Serve phase attempt b
+  pub accepted : o ≡ said.Served attempt
 
 -- what held before i, and what holds at i, held before suc i
 pub later : {P : ℕ → Type 0} {i : ℕ} → Before P i → Before P (suc i)
@@ -36,47 +54,6 @@ pub now : {P : ℕ → Type 0} (i : ℕ) → P i → Before P (suc i)
 now i p = record { at = i; earlier = omega arith; holds = p }
 
 module _ (f : Floor) (l : List (List ℕ)) where
-  case-at : (i : ℕ) → StepCase (floorAt f l i) (commandAt l i) (stepOf (floorAt f l i) (getD l i []))
-  case-at i = step-case (floorAt f l i) (getD l i [])
-
-  -- in a department
-  module _ (d : Department) where
-    eventAt : ℕ → Happening
-    eventAt i = eventOf d (case-at i)
-
-    -- what happened before the step at i
-    pub history : ℕ → History
-    history zero = []
-    history (suc i) = eventAt i ∷ history i
-
-    happened : (e : Happening) (i : ℕ) → List·Memᴰ e (history i) → Before (λ k. e ≡ eventAt k) i
-    unfolding history
-    happened e zero m = absurd (List·Memᴰ·not-nil m)
-    happened e (suc i) m = elim (List·Memᴰ·cases-cons m) [ inl q ↦ now i q | inr o ↦ later (happened e i o) ]
-
-    -- what an event before i came of
-    pub caused : (e : Happening) (i : ℕ) → List·Memᴰ e (history i) → Before (λ k. Cause d (floorAt f l k) (commandAt l k) (saidAt f l k) e) i
-    unfolding eventAt
-    caused e i m =
-        let x = happened e i m in
-        let k = x .at in
-        record { at = k; earlier = x .earlier; holds = subst (Cause d (floorAt f l k) (commandAt l k) (saidAt f l k)) (sym (x .holds)) (cause d (case-at k)) }
-
-    -- what happened before i happened before every later position
-    pub still-happened : {e : Happening} (i t : ℕ) → i ≤ t → List·Memᴰ e (history i) → List·Memᴰ e (history t)
-    unfolding history
-    still-happened {e} i zero h m = let q : i ≡ 0 = omega arith in subst (λ (k : ℕ). List·Memᴰ e (history k)) q m
-    still-happened {e} i (suc t) h m = elim (eq-or-lt-of-le h) [
-      | inl q ↦ subst (λ (k : ℕ). List·Memᴰ e (history k)) q m
-      | inr o ↦ List·Memᴰ·tail (still-happened i t (omega arith) m)
-    ]
-
-  -- the number of boxes stays
-  pub size-at : (i : ℕ) → floorAt f l i .n ≡ f .n
-  unfolding floorAt
-  size-at zero = refl
-  size-at (suc i) = step-sizes (floorAt f l i) (getD l i []) .boxes ∙ size-at i
-
   named-more : {x : Attempt f l} {i : ℕ} → ¬ (saidAt f l i ≡ said.Begun (x .number)) → Named f l x i → Named f l x (suc i)
   named-more {x} {i} d n = record {
     earlier = omega (arith, n .earlier);
@@ -92,26 +69,11 @@ module _ (f : Floor) (l : List (List ℕ)) where
     pub rank : attemptRank f l attempt ≡ rowAt (floorAt f l i) a .rank
 
   module _ (new : New f) where
-    pub reached-at : (d : Department) (i : ℕ) → Reached d (floorAt f l i) (history d i)
-    unfolding floorAt history eventAt
-    reached-at d zero = new-reached d new
-    reached-at d (suc i) =
-        let k = reached-at d i in
-        reached-next k (case-at i) (step-lengths (floorAt f l i) (getD l i []) (k .lengths)) (step-owned (floorAt f l i) (getD l i []) (k .lengths) (k .owned))
-        (step-sizes (floorAt f l i) (getD l i []) .boxes)
-
-    -- whatever the department
-    pub lengths-at : (i : ℕ) → Lengths (floorAt f l i)
-    lengths-at i = reached-at Sails i .lengths
-
-    pub owned-at : (i : ℕ) → Owned (floorAt f l i)
-    owned-at i = reached-at Sails i .owned
-
     -- what it means that the step at i said o
     pub means-at : (i : ℕ) (o : Outcome) → saidAt f l i ≡ o → Meaning (floorAt f l i) (commandAt l i) (floorAt f l (suc i)) o
     unfolding floorAt
     means-at i o e =
-        subst (Meaning (floorAt f l i) (commandAt l i) (stepOf (floorAt f l i) (getD l i []) .floor)) e (step-means (floorAt f l i) (getD l i []) (lengths-at i))
+        subst (Meaning (floorAt f l i) (commandAt l i) (stepOf (floorAt f l i) (getD l i []) .floor)) e (step-means (floorAt f l i) (getD l i []) (lengths-at f l new i))
 
     pub row-at : (i a : ℕ) → InUse (floorAt f l i) a → RowOf i a
     unfolding floorAt stepOf newRow
@@ -138,3 +100,30 @@ module _ (f : Floor) (l : List (List ℕ)) where
             rank = o .rank ∙ sym (k .rank);
           })
     ]
+
+    -- the run is safe in each department
+    pub safe : (d : Department) → Safety (runIn f l new d)
+    safe d = safety ℕ ℕ (f .n) figure1 (consensus-fits 0) (runIn f l new d)
+
+    -- a station that reads or writes is in a row of its own, and reads before its write is issued
+    module _ (i j a : ℕ) where
+      seat-of : (p : State) → stationAt (floorAt f l i) j .state ≡ p → runIn f l new (departmentAt (floorAt f l i) j) .at i .station j .seat ≡ seatIn p
+      seat-of p e = ap (λ (x : machine.Station). x .seat) (seen-own (departmentAt (floorAt f l i) j) (stationAt (floorAt f l i) j) refl) ∙ ap seatIn e
+
+      pub reads-in : stationAt (floorAt f l i) j .state ≡ state.Reading a
+          → InUse (floorAt f l i) a × (rowAt (floorAt f l i) a .station ≡ j) × ((b : ℕ) → slotAt (rowAt (floorAt f l i) a .write) b .stage ≡ Unissued)
+      reads-in e = let v = safe (departmentAt (floorAt f l i) j) .reads i j a (seat-of (state.Reading a) e) in (v .0 .1, v .1, v .2)
+
+      pub writes-in : stationAt (floorAt f l i) j .state ≡ state.Writing a → InUse (floorAt f l i) a × (rowAt (floorAt f l i) a .station ≡ j)
+      writes-in e = let v = safe (departmentAt (floorAt f l i) j) .writes i j a (seat-of (state.Writing a) e) in (v .0 .1, v .1)
+
+      -- so no request of its write was served
+      pub reading-unissued : stationAt (floorAt f l i) j .state ≡ state.Reading a → (b : ℕ) → standingOf (rowAt (floorAt f l i) a .write) b ≡ notIssued
+      unfolding standing
+      reading-unissued e b =
+          let v = reads-in e in
+          by-test (λ (s : Standing). s ≡ notIssued) _ _ _
+          (λ h. absurd (let n : _≡_ {A = ℕ} 0 1 = cc (v .2 b, safe (rowDepartment a) .received i a b Write (refl, v .0) h) in omega arith)) (λ _. ap notReceived (v .2 b))
+
+    pub rank-positive : (i a : ℕ) → InUse (floorAt f l i) a → 0 < rowAt (floorAt f l i) a .rank
+    rank-positive i a h = safe (rowDepartment a) .positive i a (refl, h)

@@ -1,201 +1,39 @@
--- Every step, accepted or refused, leads from a floor that shows its history to one that shows it with what happened.
-use Prim.Native.Nat.{ℕ}
-use native.Mathlib.Omega.{arith}
+-- The run of a list in a department, as a run of the machine: its steps are the simulation's, and it says what the list's steps said.
+use Prim.Native.Nat.{ℕ, zero, suc}
 use mathlib.Core.Path.{_≡_, refl, sym, ap, subst, _∙_}
-use mathlib.Core.Bool.{Bool, true, false}
-use mathlib.Core.List.{List, [], _∷_, List·Memᴰ·not-nil}
-use lib.ListN.{length}
-use Rattle.register.specs.Register.{isOf, registerOf, rmwRead, rmwWrite, box0}
+use mathlib.Core.List.{List, []}
+use lib.ListN.{length, getD}
+use Rattle.base.proofs.Choices.{by-test}
+use Rattle.base.proofs.Stores.{getD-same}
+use Rattle.register.specs.Register.{isOf, registerOf, box0}
 use Rattle.register.specs.declared.Department.{Department}
 use Rattle.register.specs.declared.Department.the-variants.{Sails, Canvas}
-use Rattle.register.specs.declared.ReadAnswer.{ReadAnswer}
-use Rattle.register.specs.declared.ReadAnswer.the-variants.{Held, Outranked}
 use Rattle.register.specs.declared.StorageBox.{StorageBox}
-use Rattle.protocol.specs.Invariant.{Inv}
-use Rattle.protocol.specs.Trace.{read, nack, issued, took, refused, note, other-event, Run, new, next}
-use Rattle.protocol.proofs.TraceLaws.{run-inv}
-use Rattle.protocol.proofs.Instances.{equality}
-use Rattle.requests.specs.declared.Phase.{Phase}
-use Rattle.requests.specs.declared.Phase.the-variants.{Read, Write}
-use Rattle.attempts.specs.Stations.{withState}
-use Rattle.floor.specs.Floors.{boxAt, stationAt, rowAt, departmentAt, shareOf, InUse, withBox, newStation, emptyFloor, newFloorOf}
-use Rattle.floor.specs.Departments.{belongs, SameFor, Owned}
-use Rattle.register.proofs.DepartmentLaws.{register-moved}
-use Rattle.floor.proofs.DepartmentLaws.{case-untouched}
-use Rattle.floor.proofs.FreeLaws.{next-own}
-use Rattle.floor.specs.Claims.{Sound, Lengths, CanLeave}
-use Rattle.attempts.specs.Rows.{rowDepartment, revisionOf}
-use Rattle.attempts.specs.declared.State.the-variants as state
-use Rattle.floor.specs.declared.Floor.{Floor}
-use Rattle.floor.specs.declared.Stepped.{Stepped}
 use Rattle.commands.specs.declared.Command.{Command}
 use Rattle.commands.specs.declared.Command.the-variants.{Begin, Serve}
 use Rattle.commands.specs.declared.Outcome.{Outcome}
 use Rattle.commands.specs.declared.Outcome.the-variants as said
-use Rattle.floor.specs.Effects.{heardRow, rowTaken, servedBy, withAway, afterLeave}
-use Rattle.floor.proofs.StepCases.{StepCase, turned, began, served, heard, issued, decided, aborted, stopped, left, returned}
+use Rattle.attempts.specs.Rows.{rowDepartment}
+use Rattle.floor.specs.Floors.{boxAt, stationAt, departmentAt, shareOf, InUse, newStation, emptyFloor, newFloorOf}
+use Rattle.floor.specs.Departments.{Owned}
+use Rattle.floor.specs.Claims.{Lengths}
+use Rattle.floor.specs.Runs.{floorAt, saidAt}
+use Rattle.floor.specs.Step.{stepOf}
+use Rattle.floor.specs.declared.Floor.{Floor}
+use Rattle.floor.specs.declared.Stepped.{Stepped}
+use Rattle.floor.proofs.FreeLaws.{next-own}
+use Rattle.floor.proofs.DepartmentLaws.{step-owned}
+use Rattle.floor.proofs.Keeps.{empty-lengths, empty-unused, told-at, new-floor-by, step-lengths, step-sizes}
+use Rattle.floor.proofs.StepCases.{StepCase, turned, began, served, heard, decided, aborted, stopped, left, returned, step-case}
 use Rattle.floor.proofs.StepCases as cases
-use Rattle.floor.proofs.Keeps.{empty-lengths, empty-unused, told-at, new-floor-by}
-use Rattle.base.proofs.Stores.{set-all, getD-same}
-use Rattle.agreement.proofs.History.{offered, quiet, Happening, History, Offered, offered-stays, toBox, registersOf, UsedBy, stations-stored, station-same, Shows, shows-kept, shows-same}
-use Rattle.agreement.proofs.Serves.{StepTo, seen, askedEvent, wroteEvent, servedEvent, serve-step}
-use Rattle.agreement.proofs.Deliveries.{viewOf, heard-step}
-use Rattle.agreement.proofs.Issues.{issue-step}
-use Rattle.agreement.proofs.Decisions.{decision-step, abort-step}
-use Rattle.agreement.proofs.Begins.{begin-step}
-
--- what happens in the department d at a step of the department e: the event, or nothing where that is the other
-abbrev within : (d e : Department) → Happening → Happening
-within Sails Sails x = x
-within Sails Canvas x = note quiet
-within Canvas Sails x = note quiet
-within Canvas Canvas x = x
-
--- What happens in the department d at a step. Only serves, issues and begins leave a trace in the history; every other step, refused ones
--- and those of the other department too, is quiet.
-abbrev pub eventOf : {f : Floor} {c : Command} {s : Stepped} → Department → StepCase f c s → Happening
-eventOf e (turned k t) = note quiet
-eventOf {f} e (began {s = s} {v = v} z d) = within e (departmentAt f s) (note (offered v))
-eventOf {f} e (served {p = p} {a = a} {b = b} z d) = within e (rowDepartment a) (servedEvent f p a b)
-eventOf e (heard z d q) = note quiet
-eventOf {f} e (cases.issued {a = a} {b = b} z d r q t) = within e (rowDepartment a) (issued (rowAt f a .rank) (revisionOf (heardRow f Read a b) (f .n)))
-eventOf e (decided z d r q t) = note quiet
-eventOf e (aborted z d r q t) = note quiet
-eventOf e (stopped z d) = note quiet
-eventOf e (left z d) = note quiet
-eventOf e (returned z d) = note quiet
-
--- A floor that steps led to, with its history of the department d.
-pub record Reached (d : Department) (f : Floor) (l : History) : Type 0 where
-  pub lengths : Lengths f
-  pub owned : Owned f
-  pub run : Run (f .n) _≡_ Offered (registersOf d f) l
-  pub shows : Shows d f l
-
-pub reached-inv : {d : Department} {f : Floor} {l : History} → Reached d f l → Inv (f .n) _≡_ (viewOf d f l)
-reached-inv {f = f} k = run-inv (f .n) _≡_ Offered (equality .transitive) offered-stays (k .run)
-
--- a step that leaves the rows as they are
-module _ {d : Department} {f : Floor} {l : History} (s : Shows d f l) where
-  refused-step : StepTo d f l f (note quiet)
-  refused-step = record { step = other-event (λ j. refl); shows = shows-kept s (note quiet) (f .boxes) (f .stations) (λ j. (refl, refl)) refl (s .stations) }
-
-  -- a box that is put away or brought back keeps its records
-  move-step : (b : ℕ) (t : Bool) → StepTo d f l (withBox f b (withAway t (boxAt f b))) (note quiet)
-  move-step b t = record {
-    step = other-event (set-all box0 (λ (j : ℕ) (x : StorageBox). seen d x ≡ registersOf d f j) (f .boxes) b _ (λ j. refl) (ap toBox (register-moved d (boxAt f b) t)));
-    shows = shows-kept s (note quiet) _ (f .stations) (λ j. (refl, refl)) refl (s .stations);
-  }
-
-  leave-step : Lengths f → Sound f → (j : ℕ) → CanLeave f j → StepTo d f l (afterLeave f j) (note quiet)
-  leave-step y z j k = record {
-    step = other-event (λ i. refl);
-    shows = shows-kept s (note quiet) (f .boxes) _ (station-same (f .stations) j (withState (stationAt f j) state.Gone) (refl, refl)) refl
-        (stations-stored d (UsedBy d f) (f .rows) (f .stations) j (withState (stationAt f j) state.Gone) (omega (arith, y .stations, k .station, z .station-most))
-        (λ i p. s .stations i) (λ _. tt));
-  }
-
-  -- a step of the other department
-  other-step : {g : Floor} → Owned f → SameFor d f g → StepTo d f l g (note quiet)
-  other-step o k = record { step = other-event (λ j. ap toBox (k .registers j)); shows = shows-same s o k }
-
--- A step of the department e, in the department d. One that leaves no trace,
-quiet-in : {f : Floor} {l : History} {c : Command} {s : Stepped} (x : StepCase f c s) → Owned f → (d e : Department) → Shows d f l → (isOf d e ≡ false → belongs f d c ≡ false)
-    → (Shows e f l → StepTo e f l (s .floor) (note quiet)) → StepTo d f l (s .floor) (note quiet)
-quiet-in x o Sails Sails w b t = t w
-quiet-in x o Canvas Canvas w b t = t w
-quiet-in x o Sails Canvas w b t = other-step w o (case-untouched x Sails o (b refl))
-quiet-in x o Canvas Sails w b t = other-step w o (case-untouched x Canvas o (b refl))
-
--- and one that does
-traced-in : {f : Floor} {l : History} {c : Command} {s : Stepped} (x : StepCase f c s) → Owned f → (d e : Department) (h : Happening) → Shows d f l → (isOf d e ≡ false → belongs f d c ≡ false)
-    → (Shows e f l → StepTo e f l (s .floor) h) → StepTo d f l (s .floor) (within d e h)
-traced-in x o Sails Sails h w b t = t w
-traced-in x o Canvas Canvas h w b t = t w
-traced-in x o Sails Canvas h w b t = other-step w o (case-untouched x Sails o (b refl))
-traced-in x o Canvas Sails h w b t = other-step w o (case-untouched x Canvas o (b refl))
-
--- each kind of step
-step-to : {f : Floor} {l : History} {c : Command} {s : Stepped} (e : Department) → Shows e f l → Owned f → Lengths f → (x : StepCase f c s) → StepTo e f l (s .floor) (eventOf e x)
-step-to e w o y (turned k t) = refused-step w
-step-to {f} e w o y (began {s = s} {round = r} {v = v} z d) = traced-in (began z d) o e (departmentAt f s) _ w (λ q. q) (λ k. begin-step s r v k y z d)
-step-to e w o y (served {p = p} {a = a} {b = b} z d) = traced-in (served z d) o e (rowDepartment a) _ w (λ q. q) (λ k. serve-step a b k y z p d)
-step-to e w o y (heard {p = p} {a = a} {b = b} z d q) = quiet-in (heard z d q) o e (rowDepartment a) w (λ q. q) (λ k. heard-step p a b k o y z d)
-step-to e w o y (cases.issued {a = a} {b = b} z d r q t) = traced-in (cases.issued z d r q t) o e (rowDepartment a) _ w (λ q. q) (λ k. issue-step a b k o y z d r q t)
-step-to e w o y (decided {a = a} {b = b} z d r q t) = quiet-in (decided z d r q t) o e (rowDepartment a) w (λ q. q) (λ k. decision-step a b k o y z d r)
-step-to e w o y (aborted {p = p} {a = a} {b = b} z d r q t) = quiet-in (aborted z d r q t) o e (rowDepartment a) w (λ q. q) (λ k. abort-step p a b k o y z d)
-step-to e w o y (stopped {b = b} z d) = move-step w b true
-step-to e w o y (left {s = s} z d) = leave-step w y z s d
-step-to e w o y (returned {b = b} z d) = move-step w b false
-
-pub reached-next : {d : Department} {f : Floor} {l : History} {c : Command} {s : Stepped} → Reached d f l → (x : StepCase f c s) → Lengths (s .floor) → Owned (s .floor) → s .floor .n ≡ f .n
-    → Reached d (s .floor) (eventOf d x ∷ l)
-reached-next {d} {l = l} {s = s} k x y o n = let g = step-to d (k .shows) (k .owned) (k .lengths) x in record {
-  lengths = y;
-  owned = o;
-  run = subst (λ (i : ℕ). Run i _≡_ Offered (registersOf d (s .floor)) (eventOf d x ∷ l)) (sym n) (next (k .run) (g .step));
-  shows = g .shows;
-}
-
--- What an event in the department d came of: a rank was served by a serve of its attempt, a revision was offered by a begin.
-pub record Serving (d : Department) (f : Floor) (c : Command) (o : Outcome) (r b : ℕ) : Type 0 where
-  pub attempt : ℕ
-  pub of : rowDepartment attempt ≡ d
-  pub used : InUse f attempt
-  pub rank : rowAt f attempt .rank ≡ r
-  pub phase : Phase
-  pub asked : c ≡ Serve phase attempt b
-  pub accepted : o ≡ said.Served attempt
-
-pub record Offering (d : Department) (f : Floor) (c : Command) (o : Outcome) (v : ℕ) : Type 0 where
-  pub station : ℕ
-  pub round : ℕ
-  pub number : ℕ
-  pub of : rowDepartment number ≡ d
-  pub asked : c ≡ Begin station round v
-  pub accepted : o ≡ said.Begun number
-
-abbrev pub Cause : Department → Floor → Command → Outcome → Happening → Type 0
-Cause d f c o (read r b w v) = Serving d f c o r b
-Cause d f c o (nack r b) = Unit {0}
-Cause d f c o (issued r v) = Unit {0}
-Cause d f c o (took r b) = Serving d f c o r b
-Cause d f c o (refused r b) = Unit {0}
-Cause d f c o (note (offered v)) = Offering d f c o v
-Cause d f c o (note quiet) = Unit {0}
-
-read-cause : (f : Floor) (a b : ℕ) → InUse f a → (v : ReadAnswer) → Cause (rowDepartment a) f (Serve Read a b) (said.Served a) (askedEvent v (rowAt f a .rank) b)
-read-cause f a b h (Held w v) = record { attempt = a; of = refl; used = h; rank = refl; phase = Read; asked = refl; accepted = refl }
-read-cause f a b h Outranked = tt
-
-write-cause : (f : Floor) (a b : ℕ) → InUse f a → (t : Bool) → Cause (rowDepartment a) f (Serve Write a b) (said.Served a) (wroteEvent t (rowAt f a .rank) b)
-write-cause f a b h true = record { attempt = a; of = refl; used = h; rank = refl; phase = Write; asked = refl; accepted = refl }
-write-cause f a b h false = tt
-
-serve-cause : (f : Floor) (p : Phase) (a b : ℕ) → InUse f a → Cause (rowDepartment a) f (Serve p a b) (said.Served a) (servedEvent f p a b)
-serve-cause f Read a b h = read-cause f a b h (rmwRead (servedBy f a b) (rowAt f a .rank) .answer)
-serve-cause f Write a b h = write-cause f a b h (rmwWrite (servedBy f a b) (rowAt f a .rank) (rowAt f a .written) .taken)
-
--- what is not of the department is quiet
-cause-in : (d e : Department) (f : Floor) (c : Command) (o : Outcome) (h : Happening) → Cause e f c o h → Cause d f c o (within d e h)
-cause-in Sails Sails f c o h k = k
-cause-in Sails Canvas f c o h k = tt
-cause-in Canvas Sails f c o h k = tt
-cause-in Canvas Canvas f c o h k = k
-
-pub cause : {f : Floor} {c : Command} {s : Stepped} (e : Department) (x : StepCase f c s) → Cause e f c (s .outcome) (eventOf e x)
-cause e (turned k t) = tt
-cause {f} e (began {s = s} {round = r} {v = v} z d) =
-    cause-in e (departmentAt f s) f _ _ (note (offered v))
-    (record { station = s; round = r; number = rowTaken f s; of = next-own f (departmentAt f s) (d .row); asked = refl; accepted = refl })
-cause {f} e (served {p = p} {a = a} {b = b} z d) = cause-in e (rowDepartment a) f _ _ (servedEvent f p a b) (serve-cause f p a b (d .used))
-cause e (heard z d q) = tt
-cause {f} e (cases.issued {a = a} z d r q t) = cause-in e (rowDepartment a) f _ _ (issued _ _) tt
-cause e (decided z d r q t) = tt
-cause e (aborted z d r q t) = tt
-cause e (stopped z d) = tt
-cause e (left z d) = tt
-cause e (returned z d) = tt
+use Rattle.machine.specs.Machine.{Label, none, Step}
+use Rattle.machine.specs.Machine as machine
+use Rattle.machine.specs.Runs.{Run}
+use Rattle.machine.specs.Runs as runs
+use Rattle.panel.specs.Panel.{figure1, stationFor, panel, within, labelOf}
+use Rattle.panel.proofs.Simulation.{simulates}
+use Rattle.commands.specs.Commands.{commandOf}
+use Rattle.agreement.specs.Words.{commandAt}
 
 -- A new floor: nothing has happened on it.
 pub record New (f : Floor) : Type 0 where
@@ -217,20 +55,92 @@ new-floor n m l = new-floor-by New n m l (λ _ _. empty n m l) (empty 1 1 [])
       stations = told-at l (length l);
     }
 
-pub new-reached : {f : Floor} (d : Department) → New f → Reached d f []
-new-reached {f} d x = record {
-  lengths = x .lengths;
-  owned = λ a h. absurd (x .unused a h);
-  run = new (λ b. ap (λ (c : StorageBox). registerOf d c .read) (x .boxes b) ∙ none d .0) (λ b. ap (λ (c : StorageBox). registerOf d c .write) (x .boxes b) ∙ none d .1);
-  shows = record {
-    rows = λ a h. absurd (x .unused a (h .1));
-    distinct = λ a c h. absurd (x .unused a (h .1));
-    begun = λ a h. absurd (x .unused a (h .1));
-    unbegun = λ r q h e m. absurd (List·Memᴰ·not-nil m);
-    stations = λ j q. rw (x .stations j) tt;
-  };
-}
+-- What the machine says in the department d, in the words of the list: c and o are the step's command and outcome.
+abbrev pub Says : Department → Command → Outcome → Label ℕ ℕ → Type 0
+Says d c o (machine.began s round v a) = (c ≡ Begin s round v) × (o ≡ said.Begun a) × (rowDepartment a ≡ d)
+Says d c o (machine.served p a b ok) = (c ≡ Serve p a b) × (o ≡ said.Served a) × (rowDepartment a ≡ d)
+Says d c o (machine.heard p a b) = Unit {0}
+Says d c o (machine.issued a b v) = Unit {0}
+Says d c o (machine.decided a b v) = Unit {0}
+Says d c o (machine.aborted p a b) = Unit {0}
+Says d c o (machine.left s) = Unit {0}
+Says d c o machine.quiet = Unit {0}
+
+says-within : (d e : Department) (c : Command) (o : Outcome) (t : Label ℕ ℕ) → (d ≡ e → Says d c o t) → Says d c o (within d e t)
+says-within Sails Sails c o t k = k refl
+says-within Sails Canvas c o t k = tt
+says-within Canvas Sails c o t k = tt
+says-within Canvas Canvas c o t k = k refl
+
+case-says : {f : Floor} {c : Command} {s : Stepped} (d : Department) (x : StepCase f c s) → Says d c (s .outcome) (labelOf d f c (s .outcome))
+case-says d (turned k t) = tt
+case-says {f} d (began {s = s} z y) = says-within d (departmentAt f s) _ _ _ (λ q. (refl, refl, next-own f (departmentAt f s) (y .row) ∙ sym q))
+case-says d (served {p = p} {a = a} {b = b} z y) = says-within d (rowDepartment a) _ _ _ (λ q. (refl, refl, sym q))
+case-says d (heard {a = a} z y q) = says-within d (rowDepartment a) _ _ _ (λ _. tt)
+case-says d (cases.issued {a = a} z y r q t) = says-within d (rowDepartment a) _ _ _ (λ _. tt)
+case-says d (decided {a = a} z y r q t) = says-within d (rowDepartment a) _ _ _ (λ _. tt)
+case-says d (aborted {a = a} z y r q t) = says-within d (rowDepartment a) _ _ _ (λ _. tt)
+case-says d (stopped z y) = tt
+case-says {f} d (left {s = s} z y) = says-within d (departmentAt f s) _ _ _ (λ _. tt)
+case-says d (returned z y) = tt
+
+pub says : (d : Department) (f : Floor) (r : List ℕ) → Says d (commandOf r) (stepOf f r .outcome) (labelOf d f (commandOf r) (stepOf f r .outcome))
+says d f r = case-says d (step-case f r)
+
+-- a step of the department says what it says
+pub within-own : (d e : Department) (t : Label ℕ ℕ) → e ≡ d → within d e t ≡ t
+within-own d e t q = ap (λ (x : Department). within d x t) q ∙ own d
   where
-    none : (d : Department) → (registerOf d box0 .read ≡ 0) × (registerOf d box0 .write ≡ 0)
-    none Sails = (refl, refl)
-    none Canvas = (refl, refl)
+    own : (d : Department) → within d d t ≡ t
+    own Sails = refl
+    own Canvas = refl
+
+module _ (f : Floor) (l : List (List ℕ)) where
+  -- the number of boxes stays
+  pub size-at : (i : ℕ) → floorAt f l i .n ≡ f .n
+  unfolding floorAt
+  size-at zero = refl
+  size-at (suc i) = step-sizes (floorAt f l i) (getD l i []) .boxes ∙ size-at i
+
+  -- what the step at i says in the department d
+  abbrev pub labelAt : Department → ℕ → Label ℕ ℕ
+  labelAt d i = labelOf d (floorAt f l i) (commandAt l i) (saidAt f l i)
+
+  module _ (new : New f) where
+    pub lengths-at : (i : ℕ) → Lengths (floorAt f l i)
+    unfolding floorAt
+    lengths-at zero = new .lengths
+    lengths-at (suc i) = step-lengths (floorAt f l i) (getD l i []) (lengths-at i)
+
+    pub owned-at : (i : ℕ) → Owned (floorAt f l i)
+    unfolding floorAt
+    owned-at zero = λ a h. absurd (new .unused a h)
+    owned-at (suc i) = step-owned (floorAt f l i) (getD l i []) (lengths-at i) (owned-at i)
+
+    new-seat : (d e : Department) → stationFor d (newStation e) .seat ≡ none
+    unfolding stationFor
+    new-seat d e = by-test (λ (x : machine.Station). x .seat ≡ none) (isOf d e) _ _ (λ _. refl) (λ _. refl)
+
+    new-box : (d : Department) → (registerOf d box0 .read ≡ 0) × (registerOf d box0 .write ≡ 0) × (registerOf d box0 .value ≡ 0)
+    new-box Sails = (refl, refl, refl)
+    new-box Canvas = (refl, refl, refl)
+
+    -- the run in the department d
+    pub new-in : (d : Department) → runs.New 0 (panel d (floorAt f l 0))
+    unfolding floorAt
+    new-in d = record {
+      reads = λ b. ap (λ (x : StorageBox). registerOf d x .read) (new .boxes b) ∙ new-box d .0;
+      writes = λ b. ap (λ (x : StorageBox). registerOf d x .write) (new .boxes b) ∙ new-box d .1;
+      value = λ b. ap (λ (x : StorageBox). registerOf d x .value) (new .boxes b) ∙ new-box d .2;
+      unused = λ a h. new .unused a (h .1);
+      seats = λ j. rw (new .stations j) (new-seat d (departmentAt f j));
+    }
+
+    pub step-in : (d : Department) (i : ℕ) → Step (f .n) (figure1 .Makes) (panel d (floorAt f l i)) (panel d (floorAt f l (suc i))) (labelAt d i)
+    unfolding floorAt
+    step-in d i =
+        subst (λ (n : ℕ). Step n (figure1 .Makes) (panel d (floorAt f l i)) (panel d (floorAt f l (suc i))) (labelAt d i)) (size-at i)
+        (simulates d (floorAt f l i) (getD l i []) (owned-at i) (lengths-at i))
+
+    abbrev pub runIn : (d : Department) → Run (f .n) figure1
+    runIn d = record { at = λ i. panel d (floorAt f l i); said = labelAt d; new = new-in d; step = step-in d }

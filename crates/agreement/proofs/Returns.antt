@@ -30,8 +30,8 @@ use Rattle.floor.proofs.ListLaws.{sound-at}
 use Rattle.agreement.specs.Words.{commandAt, Attempt, Named}
 use Rattle.agreement.specs.Demand.{firstFloor}
 use Rattle.agreement.specs.Returns.{AwayFrom, IssuedBefore, Waiting, ReturnsTheorem}
-use Rattle.agreement.proofs.Reach.{New, new-floor}
-use Rattle.agreement.proofs.Positions.{size-at, lengths-at, means-at}
+use Rattle.agreement.proofs.Reach.{New, new-floor, size-at, lengths-at}
+use Rattle.agreement.proofs.Positions.{means-at}
 use Rattle.agreement.proofs.Standing.{awayAt, away-step, put-at, back-at}
 use Rattle.agreement.proofs.FreeRows.{in-use, Stands, none, waits, answered, heard, standsAt, stands, served-since, served-rests, wasIssued, reads-issued, issued-since}
 

@@ -1,25 +1,17 @@
 -- Demand 3 without the solo finish: agreement, validity, aborts, and what the floor shows.
-use Prim.Native.Nat.{ℕ, zero, suc, _+_, _≤_, _<_}
+use Prim.Native.Nat.{ℕ, zero, suc, _<_}
 use native.Mathlib.Decide.{decLt}
 use native.Mathlib.Omega.{arith}
 use mathlib.Core.Path.{_≡_, refl, sym, ap, subst, _∙_}
 use mathlib.Core.Logic.{inl, inr}
 use mathlib.Core.Bool.{Bool, true, false}
-use mathlib.Core.List.{List, List·Memᴰ}
-use Rattle.base.specs.Quorum.{Majority}
-use Rattle.protocol.specs.View.{Chosen}
-use Rattle.protocol.specs.Trace.{read, took, note, Served, by-read, by-write, Outranked}
-use Rattle.base.proofs.QuorumLaws.{majority-map}
-use Rattle.protocol.proofs.TraceLaws.{outranked, nack-outranked}
-use Rattle.protocol.proofs.Instances.{consensus}
-use Rattle.requests.specs.Requests.{allYes}
-use Rattle.requests.specs.declared.Phase.{Phase}
-use Rattle.requests.specs.declared.Phase.the-variants.{Read, Write}
+use mathlib.Core.List.{List, []}
+use lib.ListN.{getD}
+use Rattle.requests.specs.declared.Phase.the-variants.{Write}
 use Rattle.register.specs.declared.Department.{Department}
 use Rattle.floor.specs.Floors.{stationAt, rowAt, departmentAt, InUse}
 use Rattle.floor.specs.Step.{stepOf}
-use Rattle.floor.specs.Claims.{CanDeliver}
-use Rattle.attempts.specs.Rows.{rowDepartment, requestsHeard}
+use Rattle.attempts.specs.Rows.{rowDepartment}
 use Rattle.attempts.specs.declared.Decision.{Decision}
 use Rattle.attempts.specs.declared.Decision.the-variants.{None, Revision}
 use Rattle.attempts.specs.declared.State.the-variants.{Decided}
@@ -31,12 +23,12 @@ use Rattle.floor.proofs.StationLaws.{decided-from}
 use Rattle.agreement.specs.Words.{Before, commandAt, Attempt, attemptDepartment, Named, OfferedAt, ServedAt, DecidesAt, DecidedIn, OutrankedAt, shownAt, ShownAt}
 use Rattle.floor.specs.Runs.{floorAt, saidAt}
 use Rattle.agreement.specs.Demand.{Safety}
-use Rattle.agreement.proofs.History.{offered, Offered}
-use Rattle.agreement.proofs.Deliveries.{viewOf}
-use Rattle.agreement.proofs.Decisions.{decision-chosen, abort-refused, abort-told}
-use Rattle.agreement.proofs.Reach.{reached-inv, Serving, New}
+use Rattle.machine.specs.Runs as machine
+use Rattle.machine.proofs.Runs.{offered}
+use Rattle.machine.proofs.Consensus.{consensus-fits}
+use Rattle.agreement.proofs.Reach.{New, Says, says, within-own, runIn}
 use Rattle.base.proofs.Cases.{clash, up-to}
-use Rattle.agreement.proofs.Positions.{later, now, history, caused, still-happened, size-at, reached-at, owned-at, means-at, row-at}
+use Rattle.agreement.proofs.Positions.{Serving, later, now, means-at, row-at, safe}
 
 -- a station that has decided nothing shows none
 abbrev pub isNone : Decision → Bool
@@ -54,49 +46,25 @@ module _ (f : Floor) (l : List (List ℕ)) where
   pub one-attempt : {i : ℕ} (x y : Attempt f l) → Named f l x i → Named f l y i → x .number ≡ y .number → x .station ≡ y .station
   one-attempt x y n m e = cc (x .asked, y .asked, ap (commandAt l) (one-begin x y n m e))
 
-  -- a revision is chosen in the department before the step at i
-  abbrev ChosenAt : Department → ℕ → ℕ → ℕ → Type 0
-  ChosenAt d r v i = Chosen (floorAt f l i .n) (viewOf d (floorAt f l i) (history f l d i)) r v
-
-  -- .. and before every later one
-  chosen-later : (d : Department) (i t r v : ℕ) → i ≤ t → ChosenAt d r v i → ChosenAt d r v t
-  chosen-later d i t r v h c = record {
-    issued = still-happened f l d i t h (c .issued);
-    taken = subst (λ (n : ℕ). Majority n (λ b. List·Memᴰ (took r b) (history f l d t))) (size-at f l i ∙ sym (size-at f l t))
-        (majority-map (λ b m. still-happened f l d i t h m) (c .taken));
-  }
-
   module _ (new : New f) where
-    -- a decision is of a revision that was chosen in its department
-    chosen-at : (d : Department) (i v : ℕ) → DecidedIn f l d v i → (r : ℕ) × ChosenAt d r v i
-    chosen-at d i v e =
-        let m = means-at f l new i (said.Decided v) (e .accepted) in
-        let a = m .attempt in
-        let k : a ≡ e .number = cc (m .answer .command, e .asked) in
-        let q : rowDepartment a ≡ d = ap rowDepartment k ∙ e .of in
-        let c = decision-chosen a (m .box) (reached-at f l new (rowDepartment a) i .shows) (owned-at f l new i) (m .answer .may) (m .answer .writing) (m .answer .quorum) (m .taken) in (
-          rowAt (floorAt f l i) a .rank,
-          subst (λ (e : Department). ChosenAt e (rowAt (floorAt f l i) a .rank) v i) q
-              (subst (λ (u : ℕ). ChosenAt (rowDepartment a) (rowAt (floorAt f l i) a .rank) u i) (sym (m .written)) c),
-        )
+    -- a decision in the list is one of the machine's run in its department
+    decided-at : (d : Department) (i v : ℕ) → DecidedIn f l d v i → machine.DecidedAt (runIn f l new d) v i
+    decided-at d i v e = record { row = e .number; box = e .box; said = rw (e .asked, e .accepted) (within-own d (rowDepartment (e .number)) _ (e .of)) }
 
     pub agreement : (d : Department) (i j u v : ℕ) → DecidedIn f l d u i → DecidedIn f l d v j → u ≡ v
-    agreement d i j u v e g =
-        consensus (floorAt f l (i + j) .n) (reached-inv (reached-at f l new d (i + j)))
-        (chosen-later d i (i + j) _ u (omega arith) (chosen-at d i u e .1))
-        (chosen-later d j (i + j) _ v (omega arith) (chosen-at d j v g .1))
+    agreement d i j u v e g = elim (safe f l new d .agreement i j u v (decided-at d i u e) (decided-at d j v g)) [ inl q ↦ q | inr q ↦ sym q ]
 
     validity : (d : Department) (i v : ℕ) → DecidedIn f l d v i → Before (OfferedAt f l d v) i
     validity d i v e =
-        let o = reached-inv (reached-at f l new d i) .sound .offered _ v (chosen-at d i v e .1 .issued) in
-        let x = caused f l d (note (offered v)) i o in
+        let x = offered (consensus-fits 0) (runIn f l new d) i v (decided-at d i v e) in
         let y = x .holds in
+        let k = subst (Says d (commandAt l (x .at)) (saidAt f l (x .at))) (y .said) (says d (floorAt f l (x .at)) (getD l (x .at) [])) in
         record {
           at = x .at;
           earlier = x .earlier;
           holds = record {
-            attempt = record { at = x .at; station = y .station; round = y .round; offer = v; number = y .number; asked = y .asked; begun = y .accepted };
-            of = y .of;
+            attempt = record { at = x .at; station = y .station; round = y .round; offer = v; number = y .row; asked = k .0; begun = k .1 };
+            of = k .2;
             begun = refl;
             offer = refl;
           };
@@ -113,29 +81,18 @@ module _ (f : Floor) (l : List (List ℕ)) where
       accepted = x .accepted ∙ ap said.Served (sym (o .number));
     }
 
-    served-before : (d : Department) (i r b : ℕ) → Served (history f l d i) r b → Before (ServedAt f l d r b) i
-    served-before d i r b (by-read {w = w} {v = v} m) =
-        let x = caused f l d (read r b w v) i m in record { at = x .at; earlier = x .earlier; holds = served-at d (x .at) r b (x .holds) }
-    served-before d i r b (by-write m) =
-        let x = caused f l d (took r b) i m in record { at = x .at; earlier = x .earlier; holds = served-at d (x .at) r b (x .holds) }
-
-    -- what outranked an attempt that aborts: where its reads end, at a box that told so; where its writes end, at a box that refused
-    outranked-by : (i a b : ℕ) (p : Phase) → CanDeliver (floorAt f l i) p a b → allYes (requestsHeard p (rowAt (floorAt f l i) a) b) (floorAt f l i .n) ≡ false
-        → (c : ℕ) × Outranked (history f l (rowDepartment a) i) (rowAt (floorAt f l i) a .rank) c
-    outranked-by i a b Read d t =
-        let k = reached-at f l new (rowDepartment a) i in
-        let c = abort-told a b (k .shows) d t in
-        (c .0, nack-outranked (floorAt f l i .n) _≡_ Offered (k .run) (rowAt (floorAt f l i) a .rank) (c .0) (c .1))
-    outranked-by i a b Write d t =
-        let k = reached-at f l new (rowDepartment a) i in
-        let c = abort-refused a b (k .shows) (k .owned) d t in
-        (c .0, outranked (floorAt f l i .n) _≡_ Offered (k .run) (rowAt (floorAt f l i) a .rank) (c .0) (k .shows .rows a (refl, d .used) .positive) (c .1) (c .2))
+    -- what the machine's run served, the list did
+    served-before : (d : Department) (i r b : ℕ) → machine.Before (machine.ServedAt (runIn f l new d) r b) i → Before (ServedAt f l d r b) i
+    served-before d i r b x =
+        let y = x .holds in
+        let k = subst (Says d (commandAt l (x .at)) (saidAt f l (x .at))) (y .said) (says d (floorAt f l (x .at)) (getD l (x .at) [])) in
+        record { at = x .at; earlier = x .earlier; holds = served-at d (x .at) r b (record { attempt = y .row; of = k .2; used = y .used .1; rank = y .rank; phase = y .phase; asked = k .0; accepted = k .1 }) }
 
     abort : (i a : ℕ) → saidAt f l i ≡ said.Aborted a → OutrankedAt f l i
     abort i a e =
         let m = means-at f l new i (said.Aborted a) e in
         let o = row-at f l new i a (m .may .used) in
-        let c = outranked-by i a (m .box) (m .phase) (m .may) (m .no) in
+        let c = safe f l new (rowDepartment a) .abort i (m .phase) a (m .box) (rw (m .command, e) (within-own (rowDepartment a) (rowDepartment a) _ refl)) in
         record {
           attempt = o .attempt;
           aborts = record {
@@ -145,10 +102,10 @@ module _ (f : Floor) (l : List (List ℕ)) where
             asked = m .command ∙ ap (λ (x : ℕ). Deliver (m .phase) x (m .box)) (sym (o .number));
             accepted = e ∙ ap said.Aborted (sym (o .number));
           };
-          rank = c .1 .rank;
-          box = c .0;
-          higher = omega (arith, c .1 .higher, o .rank);
-          served = subst (λ (d : Department). Before (ServedAt f l d (c .1 .rank) (c .0)) i) (ap rowDepartment (sym (o .number))) (served-before (rowDepartment a) i (c .1 .rank) (c .0) (c .1 .served));
+          rank = c .rank;
+          box = c .box;
+          higher = omega (arith, c .higher, o .rank);
+          served = subst (λ (d : Department). Before (ServedAt f l d (c .rank) (c .box)) i) (ap rowDepartment (sym (o .number))) (served-before (rowDepartment a) i (c .rank) (c .box) (c .served));
         }
 
     -- the delivery that says decided, of an attempt whose row is the station's

@@ -22,8 +22,10 @@ use Rattle.floor.specs.declared.Share.{Share}
 use Rattle.floor.proofs.FreeLaws.{next-own}
 use Rattle.attempts.specs.Stations.{isGone, isActive}
 use Rattle.attempts.proofs.UsedLaws.{used-more, used-full}
+use Rattle.commands.specs.declared.Command.{Command}
 use Rattle.commands.specs.declared.Command.the-variants.{Begin}
-use Rattle.floor.specs.Claims.{AwayMove, away-kept, away-put, away-brought}
+use Rattle.attempts.specs.declared.Decision.the-variants.{Revision}
+use Rattle.floor.specs.Claims.{StationMove, station-kept, station-begins, station-issues, station-decides, station-aborts, station-leaves, AwayMove, away-kept, away-put, away-brought}
 use Rattle.floor.specs.Step.{stepOf}
 use Rattle.attempts.specs.declared.State.{State}
 use Rattle.attempts.specs.declared.State.the-variants.{Idle, Reading, Writing, Decided, Gone}
@@ -33,27 +35,26 @@ use Rattle.commands.specs.declared.Outcome.{Outcome}
 use Rattle.commands.specs.declared.Outcome.the-variants as said
 use Rattle.base.proofs.Cases.{clash, by-cases, up-to}
 use Rattle.floor.proofs.Keeps.{step-sizes}
+use Rattle.floor.proofs.Moves.{apply-station}
 use Rattle.floor.proofs.RowLaws.{apply-share}
 use Rattle.floor.proofs.AwayLaws.{away-moves}
 use Rattle.floor.proofs.StationLaws.{department-stays, gone-from, active-from}
 use Rattle.agreement.specs.Words.{Before, commandAt, begunIn, Attempt, attemptRank, attemptDepartment, Named, AbortsAt, LastAway, Answering, never, returned, IdleAt, attemptsBefore, RoundLeft}
 use Rattle.agreement.specs.GivenBack.{HighestAt}
 use Rattle.floor.specs.Runs.{floorAt, saidAt}
-use Rattle.agreement.proofs.History.{History, UsedBy, StationShows, Shows}
-use Rattle.agreement.proofs.Reach.{New}
-use Rattle.agreement.proofs.Positions.{later, now, lengths-at, reached-at, means-at, row-at}
+use Rattle.agreement.proofs.Reach.{New, lengths-at}
+use Rattle.agreement.proofs.Positions.{later, now, means-at, row-at, reads-in, writes-in}
 use Rattle.agreement.proofs.Safety.{shown-decided}
 
--- a station that reads or writes is in a row of its own
-own-row : {f : Floor} {l : History} (j a : ℕ) → Shows (departmentAt f j) f l → isActive (stationAt f j .state) a ≡ true → InUse f a × (rowAt f a .station ≡ j)
-own-row {f} j a s = go (stationAt f j .state) (s .stations j refl)
-  where
-    go : (p : State) → StationShows (UsedBy (departmentAt f j) f) (f .rows) j (stationAt f j .decided) p → isActive p a ≡ true → InUse f a × (rowAt f a .station ≡ j)
-    go Idle q e = clash e refl
-    go (Reading x) q e = subst (λ (k : ℕ). InUse f k × (rowAt f k .station ≡ j)) (eqb-true x a e) (q .0 .1, q .1)
-    go (Writing x) q e = subst (λ (k : ℕ). InUse f k × (rowAt f k .station ≡ j)) (eqb-true x a e) (q .0 .1, q .1)
-    go (Decided x) q e = clash e refl
-    go Gone q e = clash e refl
+-- a station that decided shows a revision, where it did before
+decided-moves : {f : Floor} {c : Command} {j : ℕ} {o : Outcome} {x : Station} → StationMove f c j o x → ((a : ℕ) → stationAt f j .state ≡ Decided a → (u : ℕ) × (stationAt f j .decided ≡ Revision u))
+    → (a : ℕ) → x .state ≡ Decided a → (u : ℕ) × (x .decided ≡ Revision u)
+decided-moves station-kept h a e = h a e
+decided-moves (station-begins c g b l) h a e = absurd (let k : _≡_ {A = ℕ} 0 1 = cc in omega arith)
+decided-moves (station-issues c u w r) h a e = absurd (let k : _≡_ {A = ℕ} 0 1 = cc in omega arith)
+decided-moves (station-decides {v = v} c u w r q) h a e = (v, refl)
+decided-moves (station-aborts c u w r) h a e = absurd (let k : _≡_ {A = ℕ} 0 1 = cc in omega arith)
+decided-moves (station-leaves c g) h a e = absurd (let k : _≡_ {A = ℕ} 0 1 = cc in omega arith)
 
 -- the larger of two is one of them
 max-choice : (m n : ℕ) → (max m n ≡ m) ⊎ (max m n ≡ n)
@@ -73,6 +74,22 @@ begun-some d (said.Back b) e = clash e refl
 begun-some d (said.Refused k) e = clash e refl
 
 module _ (f : Floor) (l : List (List ℕ)) (new : New f) where
+  -- a station that reads or writes is in a row of its own
+  own-row : (j a i : ℕ) → isActive (stationAt (floorAt f l i) j .state) a ≡ true → InUse (floorAt f l i) a × (rowAt (floorAt f l i) a .station ≡ j)
+  own-row j a i = go (stationAt (floorAt f l i) j .state) refl
+    where
+      go : (p : State) → stationAt (floorAt f l i) j .state ≡ p → isActive p a ≡ true → InUse (floorAt f l i) a × (rowAt (floorAt f l i) a .station ≡ j)
+      go Idle q e = clash e refl
+      go (Reading x) q e = let v = reads-in f l new i j a (q ∙ ap Reading (eqb-true x a e)) in (v .0, v .1)
+      go (Writing x) q e = writes-in f l new i j a (q ∙ ap Writing (eqb-true x a e))
+      go (Decided x) q e = clash e refl
+      go Gone q e = clash e refl
+
+  decided-shows : (j i a : ℕ) → stationAt (floorAt f l i) j .state ≡ Decided a → (u : ℕ) × (stationAt (floorAt f l i) j .decided ≡ Revision u)
+  unfolding floorAt stepOf
+  decided-shows j zero a e = absurd (let q : Idle ≡ Decided a = ap (λ (x : Station). x .state) (sym (new .stations j)) ∙ e in let k : _≡_ {A = ℕ} 0 1 = cc in omega arith)
+  decided-shows j (suc i) a e = decided-moves (apply-station (floorAt f l i) (commandAt l i) j) (decided-shows j i) a e
+
   -- the number of stations stays
   pub stations-at : (i : ℕ) → floorAt f l i .m ≡ f .m
   unfolding floorAt
@@ -219,7 +236,7 @@ module _ (f : Floor) (l : List (List ℕ)) (new : New f) where
     | inl o ↦ inl (
       o,
       λ q.
-          let own = own-row j a (reached-at f l new (departmentAt (floorAt f l i) j) i .shows) o .1 in
+          let own = own-row j a i o .1 in
           clash e (ap (λ (k : ℕ). isActive (stationAt (floorAt f l (suc i)) k .state) a) (sym own) ∙ ap (λ (x : Station). isActive (x .state) a) (means-at f l new i (said.Aborted a) q .owner)),
     )
     | inr o ↦ inr o
@@ -240,7 +257,7 @@ module _ (f : Floor) (l : List (List ℕ)) (new : New f) where
   module _ (s i : ℕ) (idle : IdleAt f l s i) where
     in-none : (a : ℕ) → ¬ (isActive (stationAt (floorAt f l i) s .state) a ≡ true)
     in-none a e =
-        let own = own-row s a (reached-at f l new (departmentAt (floorAt f l i) s) i .shows) e in
+        let own = own-row s a i e in
         let o = row-at f l new i a (own .0) in
         let b = idle .aborted (o .attempt) (o .named .earlier) (o .station ∙ own .1) in
         not-aborted s i (b .at) (o .attempt) (ap (isActive (stationAt (floorAt f l i) s .state)) (o .number) ∙ e) (o .named) (b .earlier) (b .holds)
@@ -250,8 +267,7 @@ module _ (f : Floor) (l : List (List ℕ)) (new : New f) where
     idle-as (Reading a) e = absurd (in-none a (ap (λ (p : State). isActive p a) e ∙ eq-eqb a a refl))
     idle-as (Writing a) e = absurd (in-none a (ap (λ (p : State). isActive p a) e ∙ eq-eqb a a refl))
     idle-as (Decided a) e =
-        let y = subst (StationShows (UsedBy (departmentAt (floorAt f l i) s) (floorAt f l i)) (floorAt f l i .rows) s (stationAt (floorAt f l i) s .decided)) e
-        (reached-at f l new (departmentAt (floorAt f l i) s) i .shows .stations s refl) in
+        let y = decided-shows s i a e in
         absurd (idle .undecided (y .0) (shown-decided f l new s i (y .0) (y .1)))
     idle-as Gone e = absurd (idle .here (gone-before s i (ap isGone e)))
 

@@ -1,0 +1,4 @@
+pub mod Machine
+pub mod Asks
+pub mod Rules
+pub mod Runs
