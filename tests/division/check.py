@@ -145,7 +145,8 @@ def links(source, target, *but):
 PROGRAM = """fn main() {
     let made = floor::new_floor(3, 2, &[0, 1]);
     let f = made.floor;
-    let done = solo::solo_finish(f, 1, 9);
+    let v = suits::of_one(9);
+    let done = solo::solo_finish(f, 1, v);
 }
 """
 CLANG = """#!/bin/sh
@@ -170,7 +171,7 @@ def module_of(tree, out):
     keeps.chmod(0o755)
     links(tree / "crates", out / "crates")
     listed = (tree / "crates.txt").read_text()
-    (out / "crates.txt").write_text(listed.rstrip("\n") + "\nfinish: floor solo\n")
+    (out / "crates.txt").write_text(listed.rstrip("\n") + "\nfinish: suits floor solo\n")
     (out / "crates" / "finish" / "src").mkdir(parents=True)
     (out / "crates" / "finish" / "src" / "main.rt").write_text(PROGRAM)
     (out / "crates" / "finish" / "stdout").write_text("")

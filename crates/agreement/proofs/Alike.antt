@@ -8,6 +8,7 @@ use mathlib.Core.Bool.{Bool, true, false}
 use mathlib.Core.List.{List}
 use lib.ListN.{length, getD, set, length-set, List·getD-eq-default}
 use lib.Seq.{getD-set-same, getD-set-other}
+use Rattle.suits.specs.declared.Suit.{Suit}
 use Rattle.base.specs.Choice.{if_then_else_}
 use Rattle.register.specs.Register.{box0, registerOf}
 use Rattle.register.specs.declared.Department.{Department}
@@ -299,13 +300,13 @@ module _ {d : Department} {f g : Floor} (k : Alike d f g) (o : Owned f) where
       }
 
   -- a begin: the row taken, the station and the share of the department
-  abbrev beginsAs : (s round v n a : ℕ) (e : Department) (x : Station) (y : Share) → Stepped
+  abbrev beginsAs : (s round : ℕ) (v : Suit) (n a : ℕ) (e : Department) (x : Station) (y : Share) → Stepped
   beginsAs s round v n a e x y =
       stepped
       (withShare e (withStation (withRow g a (newRow n s round v)) s (record { department = x .department; state = state.Reading a; last = round; decided = x .decided }))
       (record { used = usedAfter (y .used); highest = max (y .highest) (rankOf round s) })) (said.Begun a)
 
-  begin-alike : (s round v : ℕ) → departmentAt f s ≡ d → AlikeStep d (effectOn f (Begin s round v)) (effectOn g (Begin s round v))
+  begin-alike : (s round : ℕ) (v : Suit) → departmentAt f s ≡ d → AlikeStep d (effectOn f (Begin s round v)) (effectOn g (Begin s round v))
   begin-alike s round v e =
       let x = effectOn f (Begin s round v) in
       let eg = k .same .departments s ∙ e in

@@ -6,6 +6,7 @@ use mathlib.Core.Path.{_≡_, refl, sym, ap, subst, _∙_}
 use mathlib.Core.Bool.{Bool, true, false}
 use mathlib.Core.List.{List, [], _∷_, _++_}
 use lib.ListN.{length, getD}
+use Rattle.suits.specs.declared.Suit.{Suit}
 use Rattle.base.proofs.Choices.{by-test}
 use Rattle.register.specs.declared.StorageBox.{StorageBox}
 use Rattle.base.specs.Quorum.{indicator, count, Majority}
@@ -93,7 +94,7 @@ each-append P (r ∷ l) k e g = (e .0, each-append P l k (e .1) g)
 
 -- and no other record of it than the first is a begin
 abbrev pub NoBegin : List ℕ → Type 0
-NoBegin r = (s round v : ℕ) → ¬ (commandOf r ≡ Begin s round v)
+NoBegin r = (s round : ℕ) (v : Suit) → ¬ (commandOf r ≡ Begin s round v)
 
 delivers : (a : ℕ) (c : Command) → ((x b : ℕ) → c ≡ Deliver Write x b → x ≡ a) → Delivers a (encodeOf c)
 delivers a c d x b q = d x b (sym (decode-encode c) ∙ q)
@@ -120,19 +121,19 @@ unfolding exchanges exchange
 exchanges-no-begin a p [] = tt
 exchanges-no-begin a p (b ∷ l) = (no-begin (Serve p a b) refl, (no-begin (Deliver p a b) refl, exchanges-no-begin a p l))
 
-pub plan-no-begin : (g : Floor) (s v i : ℕ) → suc i < length (planOf g s v) → NoBegin (getD (planOf g s v) (suc i) [])
+pub plan-no-begin : (g : Floor) (s : ℕ) (v : Suit) (i : ℕ) → suc i < length (planOf g s v) → NoBegin (getD (planOf g s v) (suc i) [])
 unfolding exchangesOf
 plan-no-begin g s v i h =
     each-at NoBegin (exchangesOf g s)
     (each-append NoBegin (exchanges Read (rowTaken g s) (askedOf g)) _ (exchanges-no-begin (rowTaken g s) Read (askedOf g)) (exchanges-no-begin (rowTaken g s) Write (askedOf g)))
     i (omega arith)
 
-plan-each : (g : Floor) (s v : ℕ) → Each (Delivers (rowTaken g s)) (planOf g s v)
+plan-each : (g : Floor) (s : ℕ) (v : Suit) → Each (Delivers (rowTaken g s)) (planOf g s v)
 unfolding exchangesOf
 plan-each g s v = (
   delivers (rowTaken g s) (Begin s (roundOf g s) v) (λ x b q. cc),
   each-append (Delivers (rowTaken g s)) (exchanges Read (rowTaken g s) (askedOf g)) _ (exchanges-deliver (rowTaken g s) Read (askedOf g)) (exchanges-deliver (rowTaken g s) Write (askedOf g)),
 )
 
-pub plan-delivers : (g : Floor) (s v i : ℕ) → i < length (planOf g s v) → Delivers (rowTaken g s) (getD (planOf g s v) i [])
+pub plan-delivers : (g : Floor) (s : ℕ) (v : Suit) (i : ℕ) → i < length (planOf g s v) → Delivers (rowTaken g s) (getD (planOf g s v) i [])
 plan-delivers g s v = each-at (Delivers (rowTaken g s)) (planOf g s v) (plan-each g s v)

@@ -9,6 +9,7 @@ use borrow.Author.Tests.{le-ltb, ne-eqb}
 use lib.Dec.{ltb}
 use lib.ListN.{length, getD, drop}
 use lib.Seq.{getD-set-same}
+use Rattle.suits.specs.declared.Suit.{Suit}
 use Rattle.base.specs.Choice.{if_then_else_}
 use Rattle.base.specs.Bytes.{Bytes}
 use Rattle.base.specs.Records.{AllRecords}
@@ -88,12 +89,12 @@ module _ (x : Register) (r : ℕ) (n : ¬ (r ≡ 0)) where
           changes = sym (read-kept (encode x) r p 100 refl e) ∙ ap encode (sym (outranked-kept x r t));
         }
 
-    read-answers : replyAfterRead (encode x) r p ≡ replyOf (rankIn (got .answer)) (valueIn (got .answer))
+    read-answers : replyAfterRead (encode x) r p ≡ replyOf (rankIn (got .answer)) (valueIn (got .answer) .r0)
     read-answers =
         sym (read-reply (encode x) r p (encode-length x) h n)
-        ∙ ap (λ (y : ReadDone). replyOf (rankIn (y .answer)) (valueIn (y .answer))) same-read
+        ∙ ap (λ (y : ReadDone). replyOf (rankIn (y .answer)) (valueIn (y .answer) .r0)) same-read
 
-  module _ (v : ℕ) where
+  module _ (v : Suit) where
     abbrev done : WriteDone
     done = rmwWrite x r v
 
@@ -101,21 +102,21 @@ module _ (x : Register) (r : ℕ) (n : ¬ (r ≡ 0)) where
     same = ap (λ (y : Register). rmwWrite y r v) (decode-encode x)
 
     record Called : Type 0 where
-      returns : writeAnswer (encode x) r v ≡ (if done .taken then 0 else 100)
-      changes : recordAfterWrite (encode x) r v ≡ encode (done .register)
+      returns : writeAnswer (encode x) r (v .r0) ≡ (if done .taken then 0 else 100)
+      changes : recordAfterWrite (encode x) r (v .r0) ≡ encode (done .register)
 
     called : (t : Bool) → done .taken ≡ t → Called
     called true t =
-        let e = write-0 (encode x) r v (encode-length x) n (ap (λ (y : WriteDone). y .taken) same ∙ t) in
+        let e = write-0 (encode x) r (v .r0) (encode-length x) n (ap (λ (y : WriteDone). y .taken) same ∙ t) in
         record {
           returns = sym e ∙ on-true _ t refl;
-          changes = sym (write-record (encode x) r v e) ∙ ap (λ (y : WriteDone). encode (y .register)) same;
+          changes = sym (write-record (encode x) r (v .r0) e) ∙ ap (λ (y : WriteDone). encode (y .register)) same;
         }
     called false t =
-        let e = write-100 (encode x) r v (encode-length x) n (ap (λ (y : WriteDone). y .taken) same ∙ t) in
+        let e = write-100 (encode x) r (v .r0) (encode-length x) n (ap (λ (y : WriteDone). y .taken) same ∙ t) in
         record {
           returns = sym e ∙ on-false _ t refl;
-          changes = sym (write-kept (encode x) r v 100 refl e) ∙ ap (λ (y : WriteDone). encode (y .register)) (sym (write-refused x r v (sym (write-answers x r v) ∙ t)));
+          changes = sym (write-kept (encode x) r (v .r0) 100 refl e) ∙ ap (λ (y : WriteDone). encode (y .register)) (sym (write-refused x r v (sym (write-answers x r v) ∙ t)));
         }
 
 -- a request's frame served on the 12 bytes of a register: what the routine by value gives, `after` and the answer
@@ -137,12 +138,12 @@ module _ (x : Register) (r : ℕ) (n : ¬ (r ≡ 0)) (behind buffer : List ℕ) 
       let a = rw (decode-encode x) at (serves-read (encode x) input r e buffer none) in
       record { returns = none; changes = a .leaves; answers = a .frame }
 
-  write-framed : (v : ℕ) → Framed x (WriteRequest r v) (rmwWrite x r v .register) (answerToWrite (rmwWrite x r v)) behind buffer
+  write-framed : (v : Suit) → Framed x (WriteRequest r (v .r0)) (rmwWrite x r v .register) (answerToWrite (rmwWrite x r v)) behind buffer
   write-framed v =
-      let input = frameOf (WriteRequest r v) ++ behind in
-      let e = frame-back (WriteRequest r v) behind (ne-eqb r 0 n) .message in
-      let none = says-write-room (encode x) input r v e (length buffer) (encode-length x) ∙ sym (on-false _ (room (answerToWrite (rmwWrite (decode (encode x)) r v)) (length buffer) h) refl) in
-      let a = rw (decode-encode x) at (serves-write (encode x) input r v e buffer none) in
+      let input = frameOf (WriteRequest r (v .r0)) ++ behind in
+      let e = frame-back (WriteRequest r (v .r0)) behind (ne-eqb r 0 n) .message in
+      let none = says-write-room (encode x) input r (v .r0) e (length buffer) (encode-length x) ∙ sym (on-false _ (room (answerToWrite (rmwWrite (decode (encode x)) r v)) (length buffer) h) refl) in
+      let a = rw (decode-encode x) at (serves-write (encode x) input r (v .r0) e buffer none) in
       record { returns = none; changes = a .leaves; answers = a .frame }
 
 -- an accepted serve says served
@@ -210,7 +211,7 @@ module _ (f : Floor) (l : List (List ℕ)) (new : New f) (z : Sound f) (a i : �
       record {
         returns = c .returns ∙ ap (λ (u : Bool). if u then 0 else 100) (sym (read-ok q));
         changes = c .changes ∙ ap encode (sym (read-register q));
-        answers = read-answers held (w .rank) not-zero reply h ∙ ap (λ (v : Answer). replyOf (v .rank) (v .value)) (sym (read-answer q));
+        answers = read-answers held (w .rank) not-zero reply h ∙ ap (λ (v : Answer). replyOf (v .rank) (v .value .r0)) (sym (read-answer q));
       }
   call Write q =
       let c = called held (w .rank) not-zero (w .written) _ refl in

@@ -8,6 +8,7 @@ use mathlib.Core.Bool.{Bool, true, false}
 use mathlib.Core.List.{List, []}
 use lib.ListN.{length, getD, List·getD-eq-default}
 use borrow.Author.Tests.{lt-leb}
+use Rattle.suits.specs.declared.Suit.{Suit}
 use Rattle.base.specs.Choice.{if_then_else_}
 use Rattle.base.proofs.Choices.{on-true, on-false}
 use Rattle.register.specs.declared.Department.{Department}
@@ -55,7 +56,7 @@ malformed : {f : Floor} {s : Stepped} → StepCase f Malformed s → isRefused (
 malformed (turned k t) = refl
 
 -- a begin for a station that is gone or busy
-module _ (f : Floor) (z : Sound f) (s round v : ℕ) (h : s < f .m) where
+module _ (f : Floor) (z : Sound f) (s round : ℕ) (v : Suit) (h : s < f .m) where
   abbrev c : Command
   c = Begin s round v
 
@@ -79,7 +80,7 @@ isOver (Writing a) = false
 isOver (Decided a) = true
 isOver Gone = true
 
-begin-over : (f : Floor) → Sound f → (s round v : ℕ) → s < f .m → (p : State) → stationAt f s .state ≡ p → isOver p ≡ true
+begin-over : (f : Floor) → Sound f → (s round : ℕ) (v : Suit) → s < f .m → (p : State) → stationAt f s .state ≡ p → isOver p ≡ true
     → (applyOf f (Begin s round v) .outcome ≡ said.Refused 9) ⊎ (applyOf f (Begin s round v) .outcome ≡ said.Refused 10)
 begin-over f z s r v h Idle e o = clash o refl
 begin-over f z s r v h (Reading a) e o = clash o refl
@@ -111,11 +112,11 @@ module _ (f : Floor) (l : List (List ℕ)) (new : New f) where
   ]
 
   -- the station of a decision is one of the floor's
-  station-below : Sound f → (s v k : ℕ) → DecidesAt f l s v k → s < f .m
+  station-below : Sound f → (s : ℕ) (v : Suit) (k : ℕ) → DecidesAt f l s v k → s < f .m
   station-below z s v k d = let o = decider-at f l new s v k d in omega (arith, sound-at f l z k .stations (o .row) (o .used), o .owner, stations-at f l new k)
 
   -- after its decision a station is over
-  pub over-since : (s v k i : ℕ) → DecidesAt f l s v k → k < i → isOver (stationAt (floorAt f l i) s .state) ≡ true
+  pub over-since : (s : ℕ) (v : Suit) (k i : ℕ) → DecidesAt f l s v k → k < i → isOver (stationAt (floorAt f l i) s .state) ≡ true
   unfolding floorAt stepOf
   over-since s v k zero d h = absurd (omega arith)
   over-since s v k (suc i) d h = elim (up-to h) [
@@ -133,18 +134,18 @@ module _ (f : Floor) (l : List (List ℕ)) (new : New f) where
   ]
 
   -- two decisions of a station are in one department
-  same-department : (s u v i k : ℕ) → DecidesAt f l s u i → (d : DecidesAt f l s v k) → DecidedIn f l (attemptDepartment f l (d .attempt)) u i
+  same-department : (s : ℕ) (u v : Suit) (i k : ℕ) → DecidesAt f l s u i → (d : DecidesAt f l s v k) → DecidedIn f l (attemptDepartment f l (d .attempt)) u i
   same-department s u v i k x d =
       let e = own-department f l new (x .attempt) ∙ ap (departmentAt f) (x .station ∙ sym (d .station)) ∙ sym (own-department f l new (d .attempt)) in
       subst (λ (y : Department). DecidedIn f l y u i) e (decided-in f l new s u i x)
 
-  stays : (s v k i : ℕ) → DecidesAt f l s v k → k < i → shownAt f l s i ≡ Revision v
+  stays : (s : ℕ) (v : Suit) (k i : ℕ) → DecidesAt f l s v k → k < i → shownAt f l s i ≡ Revision v
   stays s v k i d h =
       let y = shown-still f l new s v k i d h in
       let x = shown-decided f l new s i (y .0) (y .1) in
       y .1 ∙ ap Revision (agreement f l new (attemptDepartment f l (d .attempt)) (x .at) k (y .0) v (same-department s (y .0) v (x .at) k (x .holds) d) (decided-in f l new s v k d))
 
-  over : Sound f → (s v k i round u : ℕ) → DecidesAt f l s v k → k < i → commandAt l i ≡ Begin s round u
+  over : Sound f → (s : ℕ) (v : Suit) (k i round : ℕ) (u : Suit) → DecidesAt f l s v k → k < i → commandAt l i ≡ Begin s round u
       → (saidAt f l i ≡ said.Refused 9) ⊎ (saidAt f l i ≡ said.Refused 10)
   unfolding stepOf
   over z s v k i round u d h e =

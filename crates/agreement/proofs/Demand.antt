@@ -7,6 +7,8 @@ use mathlib.Core.Bool.{false}
 use mathlib.Core.List.{List, [], _++_}
 use lib.ListN.{length, getD, take}
 use lib.Seq.{getD-take, getD-append-add, length-take-le}
+use Rattle.suits.specs.Suits.{Words}
+use Rattle.suits.specs.declared.Suit.{Suit}
 use Rattle.base.proofs.QuorumLaws.{at-least-map}
 use Rattle.floor.specs.Floors.{rowAt}
 use Rattle.attempts.specs.Rows.{newRow}
@@ -46,14 +48,14 @@ use Rattle.floor.proofs.ListLaws.{floor-behind, said-behind, left-behind, said-
 use Rattle.agreement.proofs.Alone.{ready, plan-delivers, NoBegin, plan-no-begin}
 
 -- the row that an accepted begin takes is its station's
-begun-row : {f : Floor} {st : Stepped} (s round v : ℕ) → Lengths f → StepCase f (Begin s round v) st → isRefused (st .outcome) ≡ false
+begun-row : {f : Floor} {st : Stepped} (s round : ℕ) (v : Suit) → Lengths f → StepCase f (Begin s round v) st → isRefused (st .outcome) ≡ false
     → rowAt (st .floor) (rowTaken f s) .station ≡ s
 unfolding newRow
 begun-row s r v y (turned k t) e = clash refl e
 begun-row {f} s r v y (began z d) e = ap (λ (w : Row). w .station) (row-stored f y z (rowTaken f s) (newRow (f .n) s r v) (d .row))
 
 -- a list that starts with an accepted begin, and has no other: the row that it took stays its station's
-module _ (g : Floor) (y : Lengths g) (l : List (List ℕ)) (s round v : ℕ) (first : commandAt l 0 ≡ Begin s round v) (ok : isRefused (saidAt g l 0) ≡ false)
+module _ (g : Floor) (y : Lengths g) (l : List (List ℕ)) (s round : ℕ) (v : Suit) (first : commandAt l 0 ≡ Begin s round v) (ok : isRefused (saidAt g l 0) ≡ false)
     (rest : (i : ℕ) → suc i < length l → NoBegin (getD l (suc i) [])) where
   own-row : (i : ℕ) → i < length l → rowAt (floorAt g l (suc i)) (rowTaken g s) .station ≡ s
   unfolding floorAt stepOf
@@ -62,7 +64,7 @@ module _ (g : Floor) (y : Lengths g) (l : List (List ℕ)) (s round v : ℕ) (fi
       row-same (floorAt g l (suc i)) (commandAt l (suc i)) (rowTaken g s) (apply-not-begun (floorAt g l (suc i)) (commandAt l (suc i)) (rest i h) (rowTaken g s)) .station
       ∙ own-row i (omega arith)
 
-module _ (f : Floor) (l : List (List ℕ)) (new : New f) (s v : ℕ) (y : Lawful (floorLeft f l)) (x : Ready (floorLeft f l) s) (h : v < 4294967296) where
+module _ (f : Floor) (l : List (List ℕ)) (new : New f) (s : ℕ) (v : Suit) (y : Lawful (floorLeft f l)) (x : Ready (floorLeft f l) s) (h : Words v) where
   abbrev g : Floor
   g = floorLeft f l
 

@@ -6,6 +6,7 @@ use mathlib.Core.Path.{_≡_, sym, ap, subst, _∙_}
 use mathlib.Core.List.{List, []}
 use lib.ListN.{length}
 use lib.Seq.{length-take-le}
+use Rattle.suits.specs.declared.Suit.{Suit}
 use Rattle.register.specs.declared.Department.{Department}
 use Rattle.floor.specs.Floors.{stationAt, departmentAt, emptyFloor}
 use Rattle.floor.proofs.Keeps.{told-at}
@@ -34,7 +35,7 @@ refused-file : (s : List ℕ) → ¬ (fileRefusal s ≡ 0) → PlayedFile s
 refused-file s e =
     record { agreement = λ t u v w _ h _. absurd (nothing t v h); validity = λ t v h. absurd (nothing t v h) }
   where
-    nothing : (t v : ℕ) → decidedIn s t ≡ Revision v → ⊥
+    nothing : (t : ℕ) (v : Suit) → decidedIn s t ≡ Revision v → ⊥
     nothing t v h = clash (ap isNone (ap (λ (x : Played). stationAt (x .floor) t .decided) (played-refused s e) ∙ none-decided t)) (ap isNone h)
 
 module _ (s : List ℕ) (e : fileRefusal s ≡ 0) where
@@ -53,11 +54,11 @@ module _ (s : List ℕ) (e : fileRefusal s ≡ 0) where
   safe : Demand3 first (acceptedIn s)
   safe = demand3 (boxesOf s) (stationsOf s) (toldIn s) (acceptedIn s)
 
-  decides : (t v : ℕ) → decidedIn s t ≡ Revision v → Before (DecidesAt first (acceptedIn s) t v) (length (acceptedIn s))
+  decides : (t : ℕ) (v : Suit) → decidedIn s t ≡ Revision v → Before (DecidesAt first (acceptedIn s) t v) (length (acceptedIn s))
   decides t v h = safe .shown t (length (acceptedIn s)) .decided v (ap (λ (g : Floor). stationAt g t .decided) (sym left) ∙ h)
 
   -- what a station decided was decided in its department
-  decided : (t v i : ℕ) → DecidesAt first (acceptedIn s) t v i → DecidedIn first (acceptedIn s) (departmentIn s t) v i
+  decided : (t : ℕ) (v : Suit) (i : ℕ) → DecidesAt first (acceptedIn s) t v i → DecidedIn first (acceptedIn s) (departmentIn s t) v i
   decided t v i x = record {
     number = x .attempt .number;
     box = x .box;

@@ -5,6 +5,8 @@ use mathlib.Core.Path.{_≡_, refl, sym, ap, subst, _∙_}
 use mathlib.Core.Logic.{inl, inr}
 use mathlib.Core.List.{List, []}
 use lib.ListN.{getD}
+use Rattle.suits.specs.Suits.{suit0}
+use Rattle.suits.specs.declared.Suit.{Suit}
 use Rattle.register.specs.declared.Department.{Department}
 use Rattle.requests.specs.Requests.{Standing, notIssued, notReceived, standing, standingOf, slotAt}
 use Rattle.requests.specs.declared.Phase.{Phase}
@@ -103,7 +105,7 @@ module _ (f : Floor) (l : List (List ℕ)) where
 
     -- the run is safe in each department
     pub safe : (d : Department) → Safety (runIn f l new d)
-    safe d = safety ℕ ℕ (f .n) figure1 (consensus-fits 0) (runIn f l new d)
+    safe d = safety Suit Suit (f .n) figure1 (consensus-fits suit0) (runIn f l new d)
 
     -- a station that reads or writes is in a row of its own, and reads before its write is issued
     module _ (i j a : ℕ) where

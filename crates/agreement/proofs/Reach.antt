@@ -3,6 +3,8 @@ use Prim.Native.Nat.{ℕ, zero, suc}
 use mathlib.Core.Path.{_≡_, refl, sym, ap, subst, _∙_}
 use mathlib.Core.List.{List, []}
 use lib.ListN.{length, getD}
+use Rattle.suits.specs.Suits.{suit0}
+use Rattle.suits.specs.declared.Suit.{Suit}
 use Rattle.base.proofs.Choices.{by-test}
 use Rattle.base.proofs.Stores.{getD-same}
 use Rattle.register.specs.Register.{isOf, registerOf, box0}
@@ -56,7 +58,7 @@ new-floor n m l = new-floor-by New n m l (λ _ _. empty n m l) (empty 1 1 [])
     }
 
 -- What the machine says in the department d, in the words of the list: c and o are the step's command and outcome.
-abbrev pub Says : Department → Command → Outcome → Label ℕ ℕ → Type 0
+abbrev pub Says : Department → Command → Outcome → Label Suit Suit → Type 0
 Says d c o (machine.began s round v a) = (c ≡ Begin s round v) × (o ≡ said.Begun a) × (rowDepartment a ≡ d)
 Says d c o (machine.served p a b ok) = (c ≡ Serve p a b) × (o ≡ said.Served a) × (rowDepartment a ≡ d)
 Says d c o (machine.heard p a b) = Unit {0}
@@ -66,7 +68,7 @@ Says d c o (machine.aborted p a b) = Unit {0}
 Says d c o (machine.left s) = Unit {0}
 Says d c o machine.quiet = Unit {0}
 
-says-within : (d e : Department) (c : Command) (o : Outcome) (t : Label ℕ ℕ) → (d ≡ e → Says d c o t) → Says d c o (within d e t)
+says-within : (d e : Department) (c : Command) (o : Outcome) (t : Label Suit Suit) → (d ≡ e → Says d c o t) → Says d c o (within d e t)
 says-within Sails Sails c o t k = k refl
 says-within Sails Canvas c o t k = tt
 says-within Canvas Sails c o t k = tt
@@ -88,7 +90,7 @@ pub says : (d : Department) (f : Floor) (r : List ℕ) → Says d (commandOf r) 
 says d f r = case-says d (step-case f r)
 
 -- a step of the department says what it says
-pub within-own : (d e : Department) (t : Label ℕ ℕ) → e ≡ d → within d e t ≡ t
+pub within-own : (d e : Department) (t : Label Suit Suit) → e ≡ d → within d e t ≡ t
 within-own d e t q = ap (λ (x : Department). within d x t) q ∙ own d
   where
     own : (d : Department) → within d d t ≡ t
@@ -103,7 +105,7 @@ module _ (f : Floor) (l : List (List ℕ)) where
   size-at (suc i) = step-sizes (floorAt f l i) (getD l i []) .boxes ∙ size-at i
 
   -- what the step at i says in the department d
-  abbrev pub labelAt : Department → ℕ → Label ℕ ℕ
+  abbrev pub labelAt : Department → ℕ → Label Suit Suit
   labelAt d i = labelOf d (floorAt f l i) (commandAt l i) (saidAt f l i)
 
   module _ (new : New f) where
@@ -121,12 +123,12 @@ module _ (f : Floor) (l : List (List ℕ)) where
     unfolding stationFor
     new-seat d e = by-test (λ (x : machine.Station). x .seat ≡ none) (isOf d e) _ _ (λ _. refl) (λ _. refl)
 
-    new-box : (d : Department) → (registerOf d box0 .read ≡ 0) × (registerOf d box0 .write ≡ 0) × (registerOf d box0 .value ≡ 0)
+    new-box : (d : Department) → (registerOf d box0 .read ≡ 0) × (registerOf d box0 .write ≡ 0) × (registerOf d box0 .value ≡ suit0)
     new-box Sails = (refl, refl, refl)
     new-box Canvas = (refl, refl, refl)
 
     -- the run in the department d
-    pub new-in : (d : Department) → runs.New 0 (panel d (floorAt f l 0))
+    pub new-in : (d : Department) → runs.New suit0 (panel d (floorAt f l 0))
     unfolding floorAt
     new-in d = record {
       reads = λ b. ap (λ (x : StorageBox). registerOf d x .read) (new .boxes b) ∙ new-box d .0;

@@ -7,6 +7,8 @@ use mathlib.Core.Logic.{inl, inr}
 use mathlib.Core.Bool.{Bool, true, false}
 use mathlib.Core.List.{List, []}
 use lib.ListN.{getD}
+use Rattle.suits.specs.Suits.{suit0}
+use Rattle.suits.specs.declared.Suit.{Suit}
 use Rattle.requests.specs.declared.Phase.the-variants.{Write}
 use Rattle.register.specs.declared.Department.{Department}
 use Rattle.floor.specs.Floors.{stationAt, rowAt, departmentAt, InUse}
@@ -48,15 +50,15 @@ module _ (f : Floor) (l : List (List ℕ)) where
 
   module _ (new : New f) where
     -- a decision in the list is one of the machine's run in its department
-    decided-at : (d : Department) (i v : ℕ) → DecidedIn f l d v i → machine.DecidedAt (runIn f l new d) v i
+    decided-at : (d : Department) (i : ℕ) (v : Suit) → DecidedIn f l d v i → machine.DecidedAt (runIn f l new d) v i
     decided-at d i v e = record { row = e .number; box = e .box; said = rw (e .asked, e .accepted) (within-own d (rowDepartment (e .number)) _ (e .of)) }
 
-    pub agreement : (d : Department) (i j u v : ℕ) → DecidedIn f l d u i → DecidedIn f l d v j → u ≡ v
+    pub agreement : (d : Department) (i j : ℕ) (u v : Suit) → DecidedIn f l d u i → DecidedIn f l d v j → u ≡ v
     agreement d i j u v e g = elim (safe f l new d .agreement i j u v (decided-at d i u e) (decided-at d j v g)) [ inl q ↦ q | inr q ↦ sym q ]
 
-    validity : (d : Department) (i v : ℕ) → DecidedIn f l d v i → Before (OfferedAt f l d v) i
+    validity : (d : Department) (i : ℕ) (v : Suit) → DecidedIn f l d v i → Before (OfferedAt f l d v) i
     validity d i v e =
-        let x = offered (consensus-fits 0) (runIn f l new d) i v (decided-at d i v e) in
+        let x = offered (consensus-fits suit0) (runIn f l new d) i v (decided-at d i v e) in
         let y = x .holds in
         let k = subst (Says d (commandAt l (x .at)) (saidAt f l (x .at))) (y .said) (says d (floorAt f l (x .at)) (getD l (x .at) [])) in
         record {
@@ -109,7 +111,7 @@ module _ (f : Floor) (l : List (List ℕ)) where
         }
 
     -- the delivery that says decided, of an attempt whose row is the station's
-    pub decides-at : (k s v a b : ℕ) → commandAt l k ≡ Deliver Write a b → InUse (floorAt f l k) a → rowAt (floorAt f l k) a .station ≡ s → saidAt f l k ≡ said.Decided v
+    pub decides-at : (k s : ℕ) (v : Suit) (a b : ℕ) → commandAt l k ≡ Deliver Write a b → InUse (floorAt f l k) a → rowAt (floorAt f l k) a .station ≡ s → saidAt f l k ≡ said.Decided v
         → DecidesAt f l s v k
     decides-at k s v a b c u q e = let o = row-at f l new k a u in record {
       attempt = o .attempt;
@@ -121,12 +123,12 @@ module _ (f : Floor) (l : List (List ℕ)) where
     }
 
     -- every decision is that of a station
-    pub decision-of : (i v : ℕ) → saidAt f l i ≡ said.Decided v → (s : ℕ) × DecidesAt f l s v i
+    pub decision-of : (i : ℕ) (v : Suit) → saidAt f l i ≡ said.Decided v → (s : ℕ) × DecidesAt f l s v i
     decision-of i v e =
         let m = means-at f l new i (said.Decided v) e in
         (rowAt (floorAt f l i) (m .attempt) .station, decides-at i _ v (m .attempt) (m .box) (m .answer .command) (m .answer .may .used) refl e)
 
-    pub shown-decided : (s i v : ℕ) → shownAt f l s i ≡ Revision v → Before (DecidesAt f l s v) i
+    pub shown-decided : (s i : ℕ) (v : Suit) → shownAt f l s i ≡ Revision v → Before (DecidesAt f l s v) i
     unfolding floorAt stepOf
     shown-decided s zero v h = clash (ap (λ (x : Station). isNone (x .decided)) (new .stations s)) (ap isNone h)
     shown-decided s (suc i) v h = elim (decided-from (floorAt f l i) (commandAt l i) s) [
@@ -137,13 +139,13 @@ module _ (f : Floor) (l : List (List ℕ)) where
     ]
 
     -- the step by which the station s decides v: its row, and the station after it
-    pub record Decider (s v i : ℕ) : Type 0 where
+    pub record Decider (s : ℕ) (v : Suit) (i : ℕ) : Type 0 where
       pub row : ℕ
       pub used : InUse (floorAt f l i) row
       pub owner : rowAt (floorAt f l i) row .station ≡ s
       pub settled : stationAt (floorAt f l (suc i)) s ≡ record { department = departmentAt (floorAt f l i) s; state = Decided row; last = stationAt (floorAt f l i) s .last; decided = Revision v }
 
-    pub decider-at : (s v i : ℕ) → DecidesAt f l s v i → Decider s v i
+    pub decider-at : (s : ℕ) (v : Suit) (i : ℕ) → DecidesAt f l s v i → Decider s v i
     decider-at s v i d =
         let m = means-at f l new i (said.Decided v) (d .accepted) in
         let o = row-at f l new i (m .attempt) (m .answer .may .used) in
@@ -154,14 +156,14 @@ module _ (f : Floor) (l : List (List ℕ)) where
           used = m .answer .may .used;
           owner = q;
           settled = subst (λ (j : ℕ). stationAt (floorAt f l (suc i)) j ≡ record { department = departmentAt (floorAt f l i) j; state = Decided (m .attempt); last = stationAt (floorAt f l i) j .last; decided = Revision v }) q
-              (m .owner ∙ ap (λ (u : ℕ). record { department = departmentAt (floorAt f l i) (rowAt (floorAt f l i) (m .attempt) .station); state = Decided (m .attempt); last = stationAt (floorAt f l i) (rowAt (floorAt f l i) (m .attempt) .station) .last; decided = Revision u }) (sym (m .written)));
+              (m .owner ∙ ap (λ (u : Suit). record { department = departmentAt (floorAt f l i) (rowAt (floorAt f l i) (m .attempt) .station); state = Decided (m .attempt); last = stationAt (floorAt f l i) (rowAt (floorAt f l i) (m .attempt) .station) .last; decided = Revision u }) (sym (m .written)));
         }
 
     -- a station that decided shows a revision at once, and from then on
-    shown-now : (s v i : ℕ) → DecidesAt f l s v i → shownAt f l s (suc i) ≡ Revision v
+    shown-now : (s : ℕ) (v : Suit) (i : ℕ) → DecidesAt f l s v i → shownAt f l s (suc i) ≡ Revision v
     shown-now s v i d = ap (λ (x : Station). x .decided) (decider-at s v i d .settled)
 
-    pub shown-still : (s v k i : ℕ) → DecidesAt f l s v k → k < i → (u : ℕ) × (shownAt f l s i ≡ Revision u)
+    pub shown-still : (s : ℕ) (v : Suit) (k i : ℕ) → DecidesAt f l s v k → k < i → (u : Suit) × (shownAt f l s i ≡ Revision u)
     unfolding floorAt stepOf
     shown-still s v k zero d h = absurd (omega arith)
     shown-still s v k (suc i) d h = elim (up-to h) [
@@ -173,7 +175,7 @@ module _ (f : Floor) (l : List (List ℕ)) where
     ]
 
     -- a decision of a station is one in the department of its attempt
-    pub decided-in : (s v i : ℕ) (x : DecidesAt f l s v i) → DecidedIn f l (attemptDepartment f l (x .attempt)) v i
+    pub decided-in : (s : ℕ) (v : Suit) (i : ℕ) (x : DecidesAt f l s v i) → DecidedIn f l (attemptDepartment f l (x .attempt)) v i
     decided-in s v i x = record { number = x .attempt .number; box = x .box; of = refl; asked = x .asked; accepted = x .accepted }
 
     pub shown : (s i : ℕ) → ShownAt f l s i

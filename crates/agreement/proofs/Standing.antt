@@ -10,6 +10,7 @@ use mathlib.Core.List.{List, []}
 use native.Mathlib.Decide.{decLt}
 use lib.ListN.{getD}
 use borrow.Author.Tests.{eqb-true, eq-eqb}
+use Rattle.suits.specs.declared.Suit.{Suit}
 use Rattle.base.specs.Numbers.{rankOf}
 use Rattle.register.specs.declared.StorageBox.{StorageBox}
 use Rattle.base.specs.Quorum.{count, indicator}
@@ -47,8 +48,8 @@ use Rattle.agreement.proofs.Positions.{later, now, means-at, row-at, re
 use Rattle.agreement.proofs.Safety.{shown-decided}
 
 -- a station that decided shows a revision, where it did before
-decided-moves : {f : Floor} {c : Command} {j : ℕ} {o : Outcome} {x : Station} → StationMove f c j o x → ((a : ℕ) → stationAt f j .state ≡ Decided a → (u : ℕ) × (stationAt f j .decided ≡ Revision u))
-    → (a : ℕ) → x .state ≡ Decided a → (u : ℕ) × (x .decided ≡ Revision u)
+decided-moves : {f : Floor} {c : Command} {j : ℕ} {o : Outcome} {x : Station} → StationMove f c j o x → ((a : ℕ) → stationAt f j .state ≡ Decided a → (u : Suit) × (stationAt f j .decided ≡ Revision u))
+    → (a : ℕ) → x .state ≡ Decided a → (u : Suit) × (x .decided ≡ Revision u)
 decided-moves station-kept h a e = h a e
 decided-moves (station-begins c g b l) h a e = absurd (let k : _≡_ {A = ℕ} 0 1 = cc in omega arith)
 decided-moves (station-issues c u w r) h a e = absurd (let k : _≡_ {A = ℕ} 0 1 = cc in omega arith)
@@ -85,7 +86,7 @@ module _ (f : Floor) (l : List (List ℕ)) (new : New f) where
       go (Decided x) q e = clash e refl
       go Gone q e = clash e refl
 
-  decided-shows : (j i a : ℕ) → stationAt (floorAt f l i) j .state ≡ Decided a → (u : ℕ) × (stationAt (floorAt f l i) j .decided ≡ Revision u)
+  decided-shows : (j i a : ℕ) → stationAt (floorAt f l i) j .state ≡ Decided a → (u : Suit) × (stationAt (floorAt f l i) j .decided ≡ Revision u)
   unfolding floorAt stepOf
   decided-shows j zero a e = absurd (let q : Idle ≡ Decided a = ap (λ (x : Station). x .state) (sym (new .stations j)) ∙ e in let k : _≡_ {A = ℕ} 0 1 = cc in omega arith)
   decided-shows j (suc i) a e = decided-moves (apply-station (floorAt f l i) (commandAt l i) j) (decided-shows j i) a e

@@ -6,6 +6,8 @@ use mathlib.Core.Logic.{inl, inr}
 use mathlib.Core.Bool.{true, false}
 use mathlib.Core.List.{List, [], _∷_}
 use lib.ListN.{getD, replicate}
+use Rattle.suits.specs.Suits.{Words}
+use Rattle.suits.specs.declared.Suit.{Suit}
 use Rattle.base.specs.Bytes.{Bytes}
 use Rattle.base.specs.Records.{AllRecords}
 use Rattle.base.proofs.Choices.{by-test}
@@ -45,16 +47,16 @@ use Rattle.floor.proofs.Moves.{apply-box, apply-row}
 
 pub record RowFits (w : Row) : Type 0 where
   pub rank : w .rank < 2 ^ 32
-  pub offer : w .offer < 2 ^ 32
-  pub written : w .written < 2 ^ 32
-  pub answers : (j : ℕ) → (getD (w .answers) j answer0 .rank < 2 ^ 32) × (getD (w .answers) j answer0 .value < 2 ^ 32)
+  pub offer : Words (w .offer)
+  pub written : Words (w .written)
+  pub answers : (j : ℕ) → (getD (w .answers) j answer0 .rank < 2 ^ 32) × (getD (w .answers) j answer0 .value .r0 < 2 ^ 32)
 
 pub record FloorFits (f : Floor) : Type 0 where
   pub rows : (a : ℕ) → RowFits (rowAt f a)
   pub boxes : (d : Department) (b : ℕ) → Fits32 (registerAt f d b)
 
 AnswerFits : Answer → Type 0
-AnswerFits x = (x .rank < 2 ^ 32) × (x .value < 2 ^ 32)
+AnswerFits x = (x .rank < 2 ^ 32) × (x .value .r0 < 2 ^ 32)
 
 answer-fits : {x : Register} {r : ℕ} {d : ReadDone} → Fits32 x → ReadCase x r d → AnswerFits (answerOf d)
 unfolding AnswerFits
@@ -75,18 +77,18 @@ heard-fits : (p : Phase) {w : Row} (b : ℕ) → RowFits w → RowFits (rowHeard
 heard-fits Read b h = record { rank = h .rank; offer = h .offer; written = h .written; answers = h .answers }
 heard-fits Write b h = record { rank = h .rank; offer = h .offer; written = h .written; answers = h .answers }
 
-found-fits : {l : List Answer} {m : Requests} {k : ℕ} {x : Best} → ((j : ℕ) → getD l j answer0 .value < 2 ^ 32) → Found l m k x → x .value < 2 ^ 32
+found-fits : {l : List Answer} {m : Requests} {k : ℕ} {x : Best} → ((j : ℕ) → getD l j answer0 .value .r0 < 2 ^ 32) → Found l m k x → x .value .r0 < 2 ^ 32
 found-fits h (nothing z) = omega arith
 found-fits h (highest {b} p q r t) = h b
 
-revision-fits : (w : Row) (n : ℕ) → RowFits w → revisionOf w n < 2 ^ 32
+revision-fits : (w : Row) (n : ℕ) → RowFits w → Words (revisionOf w n)
 unfolding revisionOf revisionFrom
 revision-fits w n h =
-    by-test (λ (v : ℕ). v < 2 ^ 32) _ _ _ (λ _. h .offer) (λ _. found-fits (λ j. h .answers j .1) (best-found (w .answers) (w .read) n))
+    by-test (λ (v : Suit). v .r0 < 2 ^ 32) _ _ _ (λ _. h .offer) (λ _. found-fits (λ j. h .answers j .1) (best-found (w .answers) (w .read) n))
 
 served-register : (p : Phase) {w : Row} {x : Register} → RowFits w → Fits32 x → Fits32 (registerServed p w x)
 served-register Read {w} {x} h g = read-fits x (w .rank) g (h .rank)
-served-register Write {w} {x} h g = write-fits x (w .rank) g (h .rank) (w .written) (h .written)
+served-register Write {w} {x} h g = write-fits x (w .rank) g (h .rank) (w .written .r0) (h .written)
 
 module _ {f : Floor} (h : FloorFits f) {c : Command} (k : Fielded c) (j : ℕ) where
   row-fits : {o : Outcome} {w : Row} → RowMove f c j o w → RowFits w
@@ -99,7 +101,7 @@ module _ {f : Floor} (h : FloorFits f) {c : Command} (k : Fielded c) (j : ℕ) w
   row-fits (row-heard {p} {b} e d _) = heard-fits p b (h .rows j)
   row-fits (row-issues {b} {v} e d r q u t) =
       let w = heard-fits Read b (h .rows j) in
-      record { rank = w .rank; offer = w .offer; written = subst (λ (u : ℕ). u < 2 ^ 32) (sym t) (revision-fits (heardRow f Read j b) (f .n) w); answers = w .answers }
+      record { rank = w .rank; offer = w .offer; written = subst (λ (u : Suit). u .r0 < 2 ^ 32) (sym t) (revision-fits (heardRow f Read j b) (f .n) w); answers = w .answers }
 
   box-fits : {o : Outcome} {x : StorageBox} (d : Department) → BoxMove f c j o x → Fits32 (registerOf d x)
   box-fits d box-kept = h .boxes d j

@@ -9,6 +9,9 @@ use lib.ListN.{length}
 use lib.Dec.{eqb, leb}
 use lib.Count.{ones, onesIn}
 use borrow.Author.Tests.{leb-true, eqb-true, not-true}
+use Rattle.suits.specs.Suits as suits
+use Rattle.suits.specs.Suits.{Words}
+use Rattle.suits.specs.declared.Suit.{Suit}
 use Rattle.base.specs.Choice.{if_then_else_}
 use Rattle.base.specs.Numbers.{sizesRight}
 use Rattle.base.specs.Mask.{bit, setBit, countBelow}
@@ -79,17 +82,17 @@ asExpected (suc k) = if eqb (noted (saidAt three exampleI k)) (expected k) then 
 
 -- What is computed: steps of the two lists, and of the floors behind them.
 record Computed : Type 0 where
-  decided : saidAt three exampleI 13 ≡ said.Decided 9
+  decided : saidAt three exampleI 13 ≡ said.Decided (suits.single 9)
   aborted : saidAt three exampleI 17 ≡ said.Aborted 0
   malformed : saidAt three exampleI 19 ≡ said.Refused 7
   over : saidAt three exampleI 20 ≡ said.Refused 10
-  shown : shownAt three exampleI 1 (length exampleI) ≡ Revision 9
+  shown : shownAt three exampleI 1 (length exampleI) ≡ Revision (suits.single 9)
   none : shownAt three exampleI 0 (length exampleI) ≡ None
   attempts : attemptsBefore three exampleI Sails (length exampleI) ≡ 2
   -- the read of attempt 1 is served at box 1
   asked : commandAt exampleI 6 ≡ Serve Read 1 1
   served : saidAt three exampleI 6 ≡ said.Served 1
-  begins : commandAt exampleI 5 ≡ Begin 1 1 9
+  begins : commandAt exampleI 5 ≡ Begin 1 1 (suits.single 9)
   begun : saidAt three exampleI 5 ≡ said.Begun 1
   told : (commandAt outrankedRead 4 ≡ Deliver Read 0 0) × (saidAt three outrankedRead 4 ≡ said.Aborted 0)
   freed : (0 < usedOf (floorAt one single 5) Sails) × (isFree (floorAt one single 5) 0 ≡ true)
@@ -99,12 +102,12 @@ record Computed : Type 0 where
   sizes : (five .n ≡ 5) × (five .m ≡ 1)
   enough : count answering 5 ≡ 3
   sails : (departmentAt five 0 ≡ Sails) × (departmentAt three 0 ≡ Sails)
-  first-decided : saidAt two both 8 ≡ said.Decided 7
-  second-decided : saidAt two both 9 ≡ said.Decided 9
-  both-held : (heldFor Sails ≡ 7) × (heldFor Canvas ≡ 9)
+  first-decided : saidAt two both 8 ≡ said.Decided (suits.single 7)
+  second-decided : saidAt two both 9 ≡ said.Decided (suits.single 9)
+  both-held : (heldFor Sails ≡ suits.single 7) × (heldFor Canvas ≡ suits.single 9)
   undecided : shownAt pair withdrawn 0 4 ≡ None
-  withdrawn-decided : (saidAt pair withdrawn 4 ≡ said.Decided 0) × (shownAt pair withdrawn 0 5 ≡ Revision 0)
-  withdrawn-again : (saidAt pair withdrawn 7 ≡ said.WriteIssued 0) × (saidAt pair withdrawn 9 ≡ said.Decided 0)
+  withdrawn-decided : (saidAt pair withdrawn 4 ≡ said.Decided (suits.single 0)) × (shownAt pair withdrawn 0 5 ≡ Revision (suits.single 0))
+  withdrawn-again : (saidAt pair withdrawn 7 ≡ said.WriteIssued (suits.single 0)) × (saidAt pair withdrawn 9 ≡ said.Decided (suits.single 0))
   withdrawn-over : saidAt pair withdrawn 10 ≡ said.Refused 10
   begun-none : attemptsBefore five stops Sails 2 ≡ 0
   put : saidAt three cameBack 3 ≡ said.Stopped 1
@@ -112,16 +115,16 @@ record Computed : Type 0 where
   still-away : boxAt (floorAt three cameBack 5) 1 .away ≡ true
   brought : saidAt three cameBack 5 ≡ said.Back 1
   served-then : (saidAt three cameBack 6 ≡ said.Served 0) × (boxAt (floorAt three cameBack 6) 1 .away ≡ false)
-  issued-then : saidAt three cameBack 7 ≡ said.WriteIssued 7
+  issued-then : saidAt three cameBack 7 ≡ said.WriteIssued (suits.single 7)
   refused-then : saidAt three cameBack 8 ≡ said.Refused 23
   moved : (isMove (saidAt five oneBack 0) ≡ true) × (isMove (saidAt five oneBack 1) ≡ true) × (isMove (saidAt five oneBack 2) ≡ true) × (isMove (saidAt five oneBack 3) ≡ true)
   enough-back : count answeringBack 5 ≡ 3
   none-begun : attemptsBefore five oneBack Sails 4 ≡ 0
   -- behind example I: boxes 1 and 2 hold the revision of attempt 1, and box 0 that of attempt 0
-  first : (commandAt exampleI 0 ≡ Begin 0 1 7) × (saidAt three exampleI 0 ≡ said.Begun 0)
+  first : (commandAt exampleI 0 ≡ Begin 0 1 (suits.single 7)) × (saidAt three exampleI 0 ≡ said.Begun 0)
   abort : commandAt exampleI 17 ≡ Deliver Write 0 1
   noted-all : asExpected (length exampleI) ≡ true
-  held : (heldAt 0 ≡ 7) × (heldAt 1 ≡ 9) × (heldAt 2 ≡ 9)
+  held : (heldAt 0 ≡ suits.single 7) × (heldAt 1 ≡ suits.single 9) × (heldAt 2 ≡ suits.single 9)
   all : (three .n ≡ 3) × (three .m ≡ 2) × (count (λ b. true) 3 ≡ 3)
 
 computed : Computed
@@ -173,7 +176,7 @@ computed = record {
 
 rank-17 : ServedAt three exampleI Sails 17 1 6
 rank-17 = record {
-  attempt = record { at = 5; station = 1; round = 1; offer = 9; number = 1; asked = computed .begins; begun = computed .begun };
+  attempt = record { at = 5; station = 1; round = 1; offer = suits.single 9; number = 1; asked = computed .begins; begun = computed .begun };
   of = sails-row 1 (omega arith);
   named = record { earlier = omega arith; last = λ k h u. absurd (omega arith) };
   rank = refl;
@@ -183,8 +186,8 @@ rank-17 = record {
 }
 
 -- by the claims: a station decided, and a rank above that of attempt 0 was served before it aborted
-decides : (s : ℕ) × DecidesAt three exampleI s 9 13
-decides = let d = consequences 3 2 (0 ∷ 0 ∷ []) exampleI .station 13 9 (computed .decided) in (d .0, d .2)
+decides : (s : ℕ) × DecidesAt three exampleI s (suits.single 9) 13
+decides = let d = consequences 3 2 (0 ∷ 0 ∷ []) exampleI .station 13 (suits.single 9) (computed .decided) in (d .0, d .2)
 
 outranked : OutrankedAt three exampleI 17
 outranked = demand3 3 2 (0 ∷ 0 ∷ []) exampleI .safety Sails .abort 17 0 (sails-row 0 (omega arith)) (computed .aborted)
@@ -209,7 +212,7 @@ no-attempt : (x : Attempt five stops) → ¬ (x .at < 2)
 no-attempt x h = let e = only-stops (x .at) _ h (x .begun) .2 in let z : _≡_ {A = ℕ} 0 1 = cc in omega arith
 
 -- with 2 of 5 boxes away, whatever revision station 0 offers
-alone : (v : ℕ) → v < 4294967296 → DrivenAlone five stops 0 v (soloOf (floorLeft five stops) 0 v)
+alone : (v : Suit) → Words v → DrivenAlone five stops 0 v (soloOf (floorLeft five stops) 0 v)
 alone v q =
     demand3 5 1 (0 ∷ []) stops .solo 0 v (omega (arith, computed .sizes .1)) idle
     (record {
@@ -221,7 +224,7 @@ alone v q =
     (record { round = 1; least = omega arith; most = omega arith; outranks = λ x h _. absurd (no-attempt x h) })
     q
 
-thirteen : (v : ℕ) → v < 4294967296 → soloOf (floorLeft five stops) 0 v .steps ≡ 13
+thirteen : (v : Suit) → Words v → soloOf (floorLeft five stops) 0 v .steps ≡ 13
 thirteen v q = omega (arith, alone v q .count, computed .sizes .0)
 
 -- Boxes that come back.
@@ -248,7 +251,7 @@ idle-back = record {
   aborted = λ x h _. clash (only-moves (x .at) h _ (x .begun)) refl;
 }
 
-alone-back : (v : ℕ) → v < 4294967296 → DrivenAlone five oneBack 0 v (soloOf (floorLeft five oneBack) 0 v)
+alone-back : (v : Suit) → Words v → DrivenAlone five oneBack 0 v (soloOf (floorLeft five oneBack) 0 v)
 alone-back v q =
     demand3 5 1 (0 ∷ []) oneBack .solo 0 v (omega (arith, computed .sizes .1)) idle-back
     (record {
@@ -300,8 +303,8 @@ nobody-left k h o n e =
 attempt-is : (x : Attempt three exampleI) → x .at < 21
     → ((x .at ≡ 0) × (x .number ≡ 0) × (x .station ≡ 0) × (x .round ≡ 1)) ⊎ ((x .at ≡ 5) × (x .number ≡ 1) × (x .station ≡ 1) × (x .round ≡ 1))
 attempt-is x h = elim (begun-at (x .at) (x .number) h (x .begun)) [
-  | inl o ↦ (let c : Begin (x .station) (x .round) (x .offer) ≡ Begin 0 1 7 = sym (x .asked) ∙ ap (commandAt exampleI) (o .0) ∙ computed .first .0 in inl (o .0, o .1, cc, cc))
-  | inr o ↦ (let c : Begin (x .station) (x .round) (x .offer) ≡ Begin 1 1 9 = sym (x .asked) ∙ ap (commandAt exampleI) (o .0) ∙ computed .begins in inr (o .0, o .1, cc, cc))
+  | inl o ↦ (let c : Begin (x .station) (x .round) (x .offer) ≡ Begin 0 1 (suits.single 7) = sym (x .asked) ∙ ap (commandAt exampleI) (o .0) ∙ computed .first .0 in inl (o .0, o .1, cc, cc))
+  | inr o ↦ (let c : Begin (x .station) (x .round) (x .offer) ≡ Begin 1 1 (suits.single 9) = sym (x .asked) ∙ ap (commandAt exampleI) (o .0) ∙ computed .begins in inr (o .0, o .1, cc, cc))
 ]
 
 -- attempt 0 aborts at the step 17
@@ -328,7 +331,7 @@ idle-behind = record {
 }
 
 -- whatever revision it offers
-alone-behind : (v : ℕ) → v < 4294967296 → DrivenAlone three exampleI 0 v (soloOf (floorLeft three exampleI) 0 v)
+alone-behind : (v : Suit) → Words v → DrivenAlone three exampleI 0 v (soloOf (floorLeft three exampleI) 0 v)
 alone-behind v q =
     demand3 3 2 (0 ∷ 0 ∷ []) exampleI .solo 0 v (omega (arith, computed .all .1)) idle-behind
     (record { set = λ b. true; large = rw (computed .all .0) (omega (arith, computed .all .2)); each = λ b h t. never (λ x. nobody-left (x .at) (x .earlier) (said.Stopped b) refl (x .holds)) })

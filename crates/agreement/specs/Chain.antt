@@ -43,13 +43,13 @@ module _ (f : Floor) (l : List (List ℕ)) where
   pub record ReadInC (r a b i : ℕ) (reply : List ℕ) : Type 0 where
     pub returns : readAnswer (bytesAt a b i) r reply ≡ (if slotAt (rowAt (floorAt f l (suc i)) a .read) b .ok then 0 else 100)
     pub changes : recordAfterRead (bytesAt a b i) r reply ≡ bytesAt a b (suc i)
-    pub answers : replyAfterRead (bytesAt a b i) r reply ≡ replyOf (answerAt a b (suc i) .rank) (answerAt a b (suc i) .value)
+    pub answers : replyAfterRead (bytesAt a b i) r reply ≡ replyOf (answerAt a b (suc i) .rank) (answerAt a b (suc i) .value .r0)
 
   -- A write with the rank r of the attempt's revision: the call leaves the box's next record, and returns 0 where the answer on the way
   -- says "taken" and 100 where it does not.
   pub record WriteInC (r a b i : ℕ) : Type 0 where
-    pub returns : writeAnswer (bytesAt a b i) r (rowAt (floorAt f l i) a .written) ≡ (if slotAt (rowAt (floorAt f l (suc i)) a .write) b .ok then 0 else 100)
-    pub changes : recordAfterWrite (bytesAt a b i) r (rowAt (floorAt f l i) a .written) ≡ bytesAt a b (suc i)
+    pub returns : writeAnswer (bytesAt a b i) r (rowAt (floorAt f l i) a .written .r0) ≡ (if slotAt (rowAt (floorAt f l (suc i)) a .write) b .ok then 0 else 100)
+    pub changes : recordAfterWrite (bytesAt a b i) r (rowAt (floorAt f l i) a .written .r0) ≡ bytesAt a b (suc i)
 
   abbrev pub InC : (phase : Phase) (r a b i : ℕ) → Type 0
   InC Read r a b i = (reply : List ℕ) → length reply ≡ 8 → ReadInC r a b i reply
@@ -58,10 +58,10 @@ module _ (f : Floor) (l : List (List ℕ)) where
   -- the request that the serve at i serves, and the answer that is then on the way, as messages
   abbrev pub requestAt : (phase : Phase) (r a i : ℕ) → Message
   requestAt Read r a i = ReadRequest r
-  requestAt Write r a i = WriteRequest r (rowAt (floorAt f l i) a .written)
+  requestAt Write r a i = WriteRequest r (rowAt (floorAt f l i) a .written .r0)
 
   abbrev pub answeredAt : (phase : Phase) (a b i : ℕ) → Message
-  answeredAt Read a b i = if slotAt (rowAt (floorAt f l i) a .read) b .ok then ReadAnswer (answerAt a b i .rank) (answerAt a b i .value) else Outranked
+  answeredAt Read a b i = if slotAt (rowAt (floorAt f l i) a .read) b .ok then ReadAnswer (answerAt a b i .rank) (answerAt a b i .value .r0) else Outranked
   answeredAt Write a b i = if slotAt (rowAt (floorAt f l i) a .write) b .ok then Taken else NotTaken
 
   -- The request's frame handed to `box_serve`, with anything behind it: the call leaves the box's next record, and in the buffer a frame that

@@ -5,6 +5,7 @@ use mathlib.Core.Logic.{_⊎_}
 use mathlib.Core.Bool.{false}
 use mathlib.Core.List.{List}
 use lib.ListN.{length}
+use Rattle.suits.specs.declared.Suit.{Suit}
 use Rattle.commands.specs.Outcomes.{isRefused}
 use Rattle.commands.specs.declared.Command.the-variants.{Begin}
 use Rattle.commands.specs.declared.Outcome.the-variants as said
@@ -18,11 +19,11 @@ pub record Consequences (f : Floor) (l : List (List ℕ)) : Type 0 where
   -- nothing is accepted behind the end of the list
   pub inside : (i : ℕ) → isRefused (saidAt f l i) ≡ false → i < length l
   -- what is decided is decided by a station
-  pub station : (i v : ℕ) → saidAt f l i ≡ said.Decided v → (s : ℕ) × (s < f .m) × DecidesAt f l s v i
+  pub station : (i : ℕ) (v : Suit) → saidAt f l i ≡ said.Decided v → (s : ℕ) × (s < f .m) × DecidesAt f l s v i
   -- what a station decided, 0 too, the floor shows from then on
-  pub stays : (s v k i : ℕ) → DecidesAt f l s v k → k < i → shownAt f l s i ≡ Revision v
+  pub stays : (s : ℕ) (v : Suit) (k i : ℕ) → DecidesAt f l s v k → k < i → shownAt f l s i ≡ Revision v
   -- "each station keeps its own, and begins nothing after deciding", whatever it decided: such a begin is refused with 9 or 10
-  pub over : (s v k i round u : ℕ) → DecidesAt f l s v k → k < i → commandAt l i ≡ Begin s round u
+  pub over : (s : ℕ) (v : Suit) (k i round : ℕ) (u : Suit) → DecidesAt f l s v k → k < i → commandAt l i ≡ Begin s round u
       → (saidAt f l i ≡ said.Refused 9) ⊎ (saidAt f l i ≡ said.Refused 10)
   -- a box answers in the words of demand 3 exactly where the floor shows that it is not away
   pub not-away : (b i : ℕ) → Answering f l i b → boxAt (floorAt f l i) b .away ≡ false

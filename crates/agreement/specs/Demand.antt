@@ -5,6 +5,8 @@ use mathlib.Core.Path.{_≡_}
 use mathlib.Core.Bool.{false}
 use mathlib.Core.List.{List, _++_}
 use lib.ListN.{length}
+use Rattle.suits.specs.Suits.{Words}
+use Rattle.suits.specs.declared.Suit.{Suit}
 use Rattle.base.specs.Numbers.{quorum}
 use Rattle.base.specs.Quorum.{AtLeast}
 use Rattle.register.specs.declared.Department.{Department}
@@ -29,16 +31,16 @@ firstFloor n m departments = newFloorOf n m departments .floor
 module _ (f : Floor) (l : List (List ℕ)) where
   pub record Safety (d : Department) : Type 0 where
     -- "any two stations that decided have decided the same revision"
-    pub agreement : (i j u v : ℕ) → DecidedIn f l d u i → DecidedIn f l d v j → u ≡ v
+    pub agreement : (i j : ℕ) (u v : Suit) → DecidedIn f l d u i → DecidedIn f l d v j → u ≡ v
     -- "each decided revision was offered by a station before it was decided"
-    pub validity : (i v : ℕ) → DecidedIn f l d v i → Before (OfferedAt f l d v) i
+    pub validity : (i : ℕ) (v : Suit) → DecidedIn f l d v i → Before (OfferedAt f l d v) i
     -- "before each abort a rank higher than the aborted one was served at a box"
     pub abort : (i a : ℕ) → rowDepartment a ≡ d → saidAt f l i ≡ said.Aborted a → OutrankedAt f l i
 
 -- "Driven alone: by a solo finish for it, with any revision. Its steps put behind the list make the floor it hands back, the last of
 -- them says decided, and its number is how many they are." The station s with the revision v, behind the list l from the floor f; d is
 -- what the solo finish hands back.
-pub record DrivenAlone (f : Floor) (l : List (List ℕ)) (s v : ℕ) (d : Solo) : Type 0 where
+pub record DrivenAlone (f : Floor) (l : List (List ℕ)) (s : ℕ) (v : Suit) (d : Solo) : Type 0 where
   -- its steps, as 8-byte records
   pub steps : List (List ℕ)
   pub records : AllRecords steps
@@ -47,7 +49,7 @@ pub record DrivenAlone (f : Floor) (l : List (List ℕ)) (s v : ℕ) (d : Solo) 
   pub begins : commandAt (l ++ steps) (length l) ≡ Begin s round v
   pub accepted : (i : ℕ) → i < length steps → isRefused (saidAt f (l ++ steps) (length l + i)) ≡ false
   pub floor : floorLeft f (l ++ steps) ≡ d .floor
-  pub revision : ℕ
+  pub revision : Suit
   pub decides : (i : ℕ) → suc i ≡ length steps → DecidesAt f (l ++ steps) s revision (length l + i)
   pub outcome : d .outcome ≡ said.Decided revision
   pub number : d .steps ≡ length steps
@@ -67,13 +69,13 @@ pub record Demand3 (f : Floor) (l : List (List ℕ)) : Type 0 where
   -- outranks every attempt begun, an idle station driven alone, whatever revision it offers, decides in exactly 4q + 1 steps." Wish 5 of
   -- document 02 has "an unused or free row" for "fewer than 64 attempts"; wish 6: rows and attempts of its department. A revision is "a
   -- 32-bit number"; wish 7: "zero becomes a revision".
-  pub solo : (s v : ℕ)
+  pub solo : (s : ℕ) (v : Suit)
       → s < f .m
       → IdleAt f l s (length l)
       → AtLeast (quorum (f .n)) (f .n) (Answering f l (length l))
       → RowLeft f l (departmentAt f s) (length l)
       → RoundLeft f l (departmentAt f s) s (length l)
-      → v < 4294967296
+      → Words v
       → DrivenAlone f l s v (soloOf (floorLeft f l) s v)
 
 -- "Demand 3 is a single claim about the list": it holds of every list, from a new floor of any n and m, told any departments.

@@ -3,6 +3,7 @@ use Prim.Native.Nat.{ℕ, _<_}
 use mathlib.Core.Path.{_≡_}
 use mathlib.Core.List.{List}
 use lib.ListN.{take}
+use Rattle.suits.specs.declared.Suit.{Suit}
 use Rattle.register.specs.declared.Department.{Department}
 use Rattle.attempts.specs.declared.Decision.{Decision}
 use Rattle.attempts.specs.declared.Decision.the-variants.{Revision}
@@ -31,7 +32,7 @@ acceptedIn file = take (playedOf file .accepted) (recordsOf file)
 -- of every file, refused ones too. The proof is `played-file` in proofs/Files.
 pub record PlayedFile (s : List ℕ) : Type 0 where
   -- "any two stations that decided have decided the same revision", where they are of one department
-  pub agreement : (t u v w : ℕ) → departmentIn s t ≡ departmentIn s u → decidedIn s t ≡ Revision v → decidedIn s u ≡ Revision w → v ≡ w
+  pub agreement : (t u : ℕ) (v w : Suit) → departmentIn s t ≡ departmentIn s u → decidedIn s t ≡ Revision v → decidedIn s u ≡ Revision w → v ≡ w
   -- "each decided revision was offered by a station": by a begin among the accepted records
-  pub validity : (t v : ℕ) → decidedIn s t ≡ Revision v
+  pub validity : (t : ℕ) (v : Suit) → decidedIn s t ≡ Revision v
       → (i : ℕ) × (i < playedOf s .accepted) × OfferedAt (startOf s) (acceptedIn s) (departmentIn s t) v i

@@ -6,6 +6,7 @@ use mathlib.Core.Path.{_≡_}
 use mathlib.Core.Bool.{Bool, false}
 use mathlib.Core.List.{List, []}
 use lib.ListN.{getD}
+use Rattle.suits.specs.declared.Suit.{Suit}
 use Rattle.base.specs.Numbers.{rankOf}
 use Rattle.base.specs.Quorum.{count}
 use Rattle.register.specs.Register.{isOf}
@@ -57,7 +58,7 @@ module _ (f : Floor) (l : List (List ℕ)) where
     pub at : ℕ
     pub station : ℕ
     pub round : ℕ
-    pub offer : ℕ
+    pub offer : Suit
     pub number : ℕ
     pub asked : commandAt l at ≡ Begin station round offer
     pub begun : saidAt f l at ≡ said.Begun number
@@ -75,7 +76,7 @@ module _ (f : Floor) (l : List (List ℕ)) where
     pub last : (k : ℕ) → x .at < k → k < i → ¬ (saidAt f l k ≡ said.Begun (x .number))
 
   -- a revision is offered by the attempt that begins with it, in its department
-  pub record OfferedAt (d : Department) (v i : ℕ) : Type 0 where
+  pub record OfferedAt (d : Department) (v : Suit) (i : ℕ) : Type 0 where
     pub attempt : Attempt
     pub of : attemptDepartment attempt ≡ d
     pub begun : attempt .at ≡ i
@@ -93,7 +94,7 @@ module _ (f : Floor) (l : List (List ℕ)) where
     pub accepted : saidAt f l i ≡ said.Served (attempt .number)
 
   -- "An attempt's station decides, or the attempt aborts, at the delivery that says so." The station s decides the revision v.
-  pub record DecidesAt (s v i : ℕ) : Type 0 where
+  pub record DecidesAt (s : ℕ) (v : Suit) (i : ℕ) : Type 0 where
     pub attempt : Attempt
     pub named : Named attempt i
     pub station : attempt .station ≡ s
@@ -102,7 +103,7 @@ module _ (f : Floor) (l : List (List ℕ)) where
     pub accepted : saidAt f l i ≡ said.Decided v
 
   -- a revision is decided in the department d, at the delivery that says so
-  pub record DecidedIn (d : Department) (v i : ℕ) : Type 0 where
+  pub record DecidedIn (d : Department) (v : Suit) (i : ℕ) : Type 0 where
     pub number : ℕ
     pub box : ℕ
     pub of : rowDepartment number ≡ d
@@ -133,8 +134,8 @@ module _ (f : Floor) (l : List (List ℕ)) where
 
   -- "The decided revision that the floor shows for a station is the one so said, and none only where none was said."
   pub record ShownAt (s i : ℕ) : Type 0 where
-    pub decided : (v : ℕ) → shownAt s i ≡ Revision v → Before (DecidesAt s v) i
-    pub none : shownAt s i ≡ None → (v : ℕ) → ¬ Before (DecidesAt s v) i
+    pub decided : (v : Suit) → shownAt s i ≡ Revision v → Before (DecidesAt s v) i
+    pub none : shownAt s i ≡ None → (v : Suit) → ¬ Before (DecidesAt s v) i
 
   -- What a solo finish is given, before the step at i. The accepted step at k put the box b away, and it is the last before i that did.
   pub record LastAway (b k i : ℕ) : Type 0 where
@@ -151,7 +152,7 @@ module _ (f : Floor) (l : List (List ℕ)) where
   -- "A station is idle if it is not gone, never decided, and all its attempts, if any, aborted."
   pub record IdleAt (s i : ℕ) : Type 0 where
     pub here : ¬ Before (λ k. saidAt f l k ≡ said.Gone s) i
-    pub undecided : (v : ℕ) → ¬ Before (DecidesAt s v) i
+    pub undecided : (v : Suit) → ¬ Before (DecidesAt s v) i
     pub aborted : (x : Attempt) → x .at < i → x .station ≡ s → Before (AbortsAt x) i
 
   -- how many attempts of the department were begun before the step at i
@@ -163,7 +164,7 @@ module _ (f : Floor) (l : List (List ℕ)) where
   pub record DecidesBy (x : Attempt) (i : ℕ) : Type 0 where
     pub named : Named x i
     pub box : ℕ
-    pub revision : ℕ
+    pub revision : Suit
     pub asked : commandAt l i ≡ Deliver Write (x .number) box
     pub accepted : saidAt f l i ≡ said.Decided revision
 
@@ -188,7 +189,7 @@ module _ (f : Floor) (l : List (List ℕ)) where
   pub record IssuesAt (x : Attempt) (i : ℕ) : Type 0 where
     pub named : Named x i
     pub box : ℕ
-    pub revision : ℕ
+    pub revision : Suit
     pub asked : commandAt l i ≡ Deliver Read (x .number) box
     pub accepted : saidAt f l i ≡ said.WriteIssued revision
 

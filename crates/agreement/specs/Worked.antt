@@ -1,9 +1,12 @@
 -- Document 01's examples I and J, a read that is outranked, a row that is free, two departments, a withdrawal, and boxes that come back, in
 -- the words of demand 3, so that the claim is not about nothing. The proof is `worked` in proofs/Worked.
-use Prim.Native.Nat.{ℕ, _<_}
+use Prim.Native.Nat.{ℕ}
 use mathlib.Core.Path.{_≡_}
 use mathlib.Core.List.{List, [], _∷_}
 use lib.ListN.{length}
+use Rattle.suits.specs.Suits as suits
+use Rattle.suits.specs.Suits.{Words}
+use Rattle.suits.specs.declared.Suit.{Suit}
 use Rattle.requests.specs.declared.Phase.the-variants.{Read, Write}
 use Rattle.commands.specs.Commands.{encodeOf}
 use Rattle.commands.specs.declared.Command.the-variants.{Begin, Serve, Deliver, Stop, Return}
@@ -24,11 +27,11 @@ use Rattle.agreement.specs.Returns.{AwayFrom}
 -- that are refused: one of no kind, and a begin of the station that decided.
 abbrev pub exampleI : List (List ℕ)
 exampleI =
-    encodeOf (Begin 0 1 7) ∷ encodeOf (Serve Read 0 0) ∷ encodeOf (Deliver Read 0 0) ∷ encodeOf (Serve Read 0 1) ∷ encodeOf (Deliver Read 0 1)
-    ∷ encodeOf (Begin 1 1 9) ∷ encodeOf (Serve Read 1 1) ∷ encodeOf (Deliver Read 1 1) ∷ encodeOf (Serve Read 1 2) ∷ encodeOf (Deliver Read 1 2)
+    encodeOf (Begin 0 1 (suits.single 7)) ∷ encodeOf (Serve Read 0 0) ∷ encodeOf (Deliver Read 0 0) ∷ encodeOf (Serve Read 0 1) ∷ encodeOf (Deliver Read 0 1)
+    ∷ encodeOf (Begin 1 1 (suits.single 9)) ∷ encodeOf (Serve Read 1 1) ∷ encodeOf (Deliver Read 1 1) ∷ encodeOf (Serve Read 1 2) ∷ encodeOf (Deliver Read 1 2)
     ∷ encodeOf (Serve Write 1 1) ∷ encodeOf (Deliver Write 1 1) ∷ encodeOf (Serve Write 1 2) ∷ encodeOf (Deliver Write 1 2)
     ∷ encodeOf (Serve Write 0 0) ∷ encodeOf (Deliver Write 0 0) ∷ encodeOf (Serve Write 0 1) ∷ encodeOf (Deliver Write 0 1) ∷ encodeOf (Serve Write 0 2)
-    ∷ (10 ∷ 255 ∷ []) ∷ encodeOf (Begin 1 2 5) ∷ []
+    ∷ (10 ∷ 255 ∷ []) ∷ encodeOf (Begin 1 2 (suits.single 5)) ∷ []
 
 -- "J: solo on a new floor of 5: 13 steps; with 2 stopped, 13"
 abbrev pub stops : List (List ℕ)
@@ -37,16 +40,16 @@ stops = encodeOf (Stop 0) ∷ encodeOf (Stop 1) ∷ []
 -- Wish 2 of document 02: attempt 1 (rank 17, 9) has read at box 0, and attempt 0 (rank 16, 7) reads there after it.
 abbrev pub outrankedRead : List (List ℕ)
 outrankedRead =
-    encodeOf (Begin 0 1 7) ∷ encodeOf (Begin 1 1 9) ∷ encodeOf (Serve Read 1 0) ∷ encodeOf (Serve Read 0 0) ∷ encodeOf (Deliver Read 0 0) ∷ []
+    encodeOf (Begin 0 1 (suits.single 7)) ∷ encodeOf (Begin 1 1 (suits.single 9)) ∷ encodeOf (Serve Read 1 0) ∷ encodeOf (Serve Read 0 0) ∷ encodeOf (Deliver Read 0 0) ∷ []
 
 -- Wish 5: an attempt on one box that decides, with nothing of it waiting then.
 abbrev pub single : List (List ℕ)
-single = encodeOf (Begin 0 1 7) ∷ encodeOf (Serve Read 0 0) ∷ encodeOf (Deliver Read 0 0) ∷ encodeOf (Serve Write 0 0) ∷ encodeOf (Deliver Write 0 0) ∷ []
+single = encodeOf (Begin 0 1 (suits.single 7)) ∷ encodeOf (Serve Read 0 0) ∷ encodeOf (Deliver Read 0 0) ∷ encodeOf (Serve Write 0 0) ∷ encodeOf (Deliver Write 0 0) ∷ []
 
 -- Wish 6: a sails and a canvas station on one box, with equal rounds; their attempts are 0 and 64.
 abbrev pub both : List (List ℕ)
 both =
-    encodeOf (Begin 0 1 7) ∷ encodeOf (Begin 1 1 9) ∷ encodeOf (Serve Read 0 0) ∷ encodeOf (Serve Read 64 0) ∷ encodeOf (Deliver Read 0 0) ∷ encodeOf (Deliver Read 64 0)
+    encodeOf (Begin 0 1 (suits.single 7)) ∷ encodeOf (Begin 1 1 (suits.single 9)) ∷ encodeOf (Serve Read 0 0) ∷ encodeOf (Serve Read 64 0) ∷ encodeOf (Deliver Read 0 0) ∷ encodeOf (Deliver Read 64 0)
     ∷ encodeOf (Serve Write 64 0) ∷ encodeOf (Serve Write 0 0) ∷ encodeOf (Deliver Write 0 0) ∷ encodeOf (Deliver Write 64 0) ∷ []
 
 abbrev pub two : Floor
@@ -56,9 +59,9 @@ two = firstFloor 1 2 (0 ∷ 1 ∷ [])
 -- the station that decided first.
 abbrev pub withdrawn : List (List ℕ)
 withdrawn =
-    encodeOf (Begin 0 1 0) ∷ encodeOf (Serve Read 0 0) ∷ encodeOf (Deliver Read 0 0) ∷ encodeOf (Serve Write 0 0) ∷ encodeOf (Deliver Write 0 0)
-    ∷ encodeOf (Begin 1 1 9) ∷ encodeOf (Serve Read 1 0) ∷ encodeOf (Deliver Read 1 0) ∷ encodeOf (Serve Write 1 0) ∷ encodeOf (Deliver Write 1 0)
-    ∷ encodeOf (Begin 0 2 5) ∷ []
+    encodeOf (Begin 0 1 (suits.single 0)) ∷ encodeOf (Serve Read 0 0) ∷ encodeOf (Deliver Read 0 0) ∷ encodeOf (Serve Write 0 0) ∷ encodeOf (Deliver Write 0 0)
+    ∷ encodeOf (Begin 1 1 (suits.single 9)) ∷ encodeOf (Serve Read 1 0) ∷ encodeOf (Deliver Read 1 0) ∷ encodeOf (Serve Write 1 0) ∷ encodeOf (Deliver Write 1 0)
+    ∷ encodeOf (Begin 0 2 (suits.single 5)) ∷ []
 
 abbrev pub pair : Floor
 pair = firstFloor 1 2 (0 ∷ 0 ∷ [])
@@ -66,7 +69,7 @@ pair = firstFloor 1 2 (0 ∷ 0 ∷ [])
 -- Wish 8: box 1 goes away with a read waiting there, which is served when it is back. Behind it, a box that is not away is brought back.
 abbrev pub cameBack : List (List ℕ)
 cameBack =
-    encodeOf (Begin 0 1 7) ∷ encodeOf (Serve Read 0 0) ∷ encodeOf (Deliver Read 0 0) ∷ encodeOf (Stop 1) ∷ encodeOf (Serve Read 0 1) ∷ encodeOf (Return 1)
+    encodeOf (Begin 0 1 (suits.single 7)) ∷ encodeOf (Serve Read 0 0) ∷ encodeOf (Deliver Read 0 0) ∷ encodeOf (Stop 1) ∷ encodeOf (Serve Read 0 1) ∷ encodeOf (Return 1)
     ∷ encodeOf (Serve Read 0 1) ∷ encodeOf (Deliver Read 0 1) ∷ encodeOf (Return 1) ∷ []
 
 -- of five boxes three go, one by kind 6, and that one is back
@@ -74,7 +77,7 @@ abbrev pub oneBack : List (List ℕ)
 oneBack = encodeOf (Stop 0) ∷ (6 ∷ 1 ∷ 0 ∷ 0 ∷ 0 ∷ 0 ∷ 0 ∷ 0 ∷ []) ∷ encodeOf (Stop 2) ∷ encodeOf (Return 1) ∷ []
 
 -- what the box holds for a department behind both
-abbrev pub heldFor : (d : Department) → ℕ
+abbrev pub heldFor : (d : Department) → Suit
 heldFor d = registerAt (floorLeft two both) d 0 .value
 
 abbrev pub one : Floor
@@ -87,12 +90,12 @@ abbrev pub five : Floor
 five = firstFloor 5 1 (0 ∷ [])
 
 -- the value that a box holds behind example I
-abbrev pub heldAt : (b : ℕ) → ℕ
+abbrev pub heldAt : (b : ℕ) → Suit
 heldAt b = registerAt (floorLeft three exampleI) Sails b .value
 
 pub record Worked : Type 0 where
   -- I: a station decides 9; rank 17 is served at box 1, and before attempt 0 aborted a rank above its own was
-  pub decides : (s : ℕ) × DecidesAt three exampleI s 9 13
+  pub decides : (s : ℕ) × DecidesAt three exampleI s (suits.single 9) 13
   pub served : ServedAt three exampleI Sails 17 1 6
   pub outranked : OutrankedAt three exampleI 17
   -- wish 2: attempt 0 aborts at its first read answer, and before that a rank above its own was served
@@ -102,26 +105,26 @@ pub record Worked : Type 0 where
   pub free : FreeAt one single 0 5
   pub not-free : ¬ FreeAt one single 0 4
   -- wish 6: each department decides its own revision, and the box holds both
-  pub first-decided : saidAt two both 8 ≡ said.Decided 7
-  pub second-decided : saidAt two both 9 ≡ said.Decided 9
-  pub both-held : (heldFor Sails ≡ 7) × (heldFor Canvas ≡ 9)
+  pub first-decided : saidAt two both 8 ≡ said.Decided (suits.single 7)
+  pub second-decided : saidAt two both 9 ≡ said.Decided (suits.single 9)
+  pub both-held : (heldFor Sails ≡ suits.single 7) × (heldFor Canvas ≡ suits.single 9)
   -- wish 7: nothing is shown before the withdrawal is decided, then revision 0; the other station decides it again; the first begins nothing after
   pub undecided : shownAt pair withdrawn 0 4 ≡ None
-  pub withdrawn-decided : (saidAt pair withdrawn 4 ≡ said.Decided 0) × (shownAt pair withdrawn 0 5 ≡ Revision 0)
-  pub withdrawn-again : (saidAt pair withdrawn 7 ≡ said.WriteIssued 0) × (saidAt pair withdrawn 9 ≡ said.Decided 0)
+  pub withdrawn-decided : (saidAt pair withdrawn 4 ≡ said.Decided (suits.single 0)) × (shownAt pair withdrawn 0 5 ≡ Revision (suits.single 0))
+  pub withdrawn-again : (saidAt pair withdrawn 7 ≡ said.WriteIssued (suits.single 0)) × (saidAt pair withdrawn 9 ≡ said.Decided (suits.single 0))
   pub withdrawn-over : saidAt pair withdrawn 10 ≡ said.Refused 10
   -- wish 8: while it is away box 1 does not serve the read, and does not answer; back it does both
   pub away : (saidAt three cameBack 4 ≡ said.Refused 13) × (¬ Answering three cameBack 5 1)
   pub back : (saidAt three cameBack 5 ≡ said.Back 1) × (saidAt three cameBack 6 ≡ said.Served 0) × Answering three cameBack 6 1
-  pub went-on : saidAt three cameBack 7 ≡ said.WriteIssued 7
+  pub went-on : saidAt three cameBack 7 ≡ said.WriteIssued (suits.single 7)
   pub not-away : saidAt three cameBack 8 ≡ said.Refused 23
   pub away-from : AwayFrom three cameBack 1 3 5
   -- with 3 of 5 boxes away and one of them back, whatever revision station 0 offers
-  pub alone-back : (v : ℕ) → v < 4294967296 → DrivenAlone five oneBack 0 v (soloOf (floorLeft five oneBack) 0 v)
+  pub alone-back : (v : Suit) → Words v → DrivenAlone five oneBack 0 v (soloOf (floorLeft five oneBack) 0 v)
   -- J: with 2 of 5 boxes stopped, whatever revision station 0 offers
-  pub alone : (v : ℕ) → v < 4294967296 → DrivenAlone five stops 0 v (soloOf (floorLeft five stops) 0 v)
-  pub thirteen : (v : ℕ) → v < 4294967296 → soloOf (floorLeft five stops) 0 v .steps ≡ 13
+  pub alone : (v : Suit) → Words v → DrivenAlone five stops 0 v (soloOf (floorLeft five stops) 0 v)
+  pub thirteen : (v : Suit) → Words v → soloOf (floorLeft five stops) 0 v .steps ≡ 13
   -- behind I station 0 is idle after its abort, and two of three boxes hold another's revision; whatever it offers
   pub idle-behind : IdleAt three exampleI 0 (length exampleI)
-  pub held-behind : (heldAt 0 ≡ 7) × (heldAt 1 ≡ 9) × (heldAt 2 ≡ 9)
-  pub alone-behind : (v : ℕ) → v < 4294967296 → DrivenAlone three exampleI 0 v (soloOf (floorLeft three exampleI) 0 v)
+  pub held-behind : (heldAt 0 ≡ suits.single 7) × (heldAt 1 ≡ suits.single 9) × (heldAt 2 ≡ suits.single 9)
+  pub alone-behind : (v : Suit) → Words v → DrivenAlone three exampleI 0 v (soloOf (floorLeft three exampleI) 0 v)

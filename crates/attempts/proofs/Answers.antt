@@ -13,6 +13,7 @@ use Rattle.base.specs.Choice.{if_then_else_}
 use Rattle.base.proofs.Choices.{on-true, on-false, by-test}
 use Rattle.base.specs.Mask.{countBelow}
 use Rattle.base.proofs.MaskLaws.{bit-zero, count-agree, count-zero}
+use Rattle.suits.specs.declared.Suit.{Suit}
 use Rattle.requests.specs.Requests.{heardFrom, atQuorum}
 use Rattle.requests.specs.declared.Requests.{Requests}
 use Rattle.base.proofs.Cases.{clash, up-to}
@@ -66,7 +67,7 @@ module _ (l : List Answer) (m : Requests) where
   best-at-quorum n = found-quorum (best-found n)
 
 -- "If that answer holds nothing, it writes its own offer, otherwise that answer's value."
-module _ (x : Best) (offer : ℕ) where
+module _ (x : Best) (offer : Suit) where
   pub revision-offer : x .rank ≡ 0 → revisionFrom x offer ≡ offer
   unfolding revisionFrom
   revision-offer e = sym (on-true _ (eq-eqb _ _ e) refl)

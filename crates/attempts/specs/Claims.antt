@@ -8,6 +8,7 @@ use mathlib.Core.List.{List}
 use lib.ListN.{getD}
 use Rattle.requests.specs.Requests.{heardFrom, standingOf, isWaiting, atQuorum}
 use Rattle.requests.specs.declared.Requests.{Requests}
+use Rattle.suits.specs.declared.Suit.{Suit}
 use Rattle.attempts.specs.Rows.{answer0, newRow, noBest, bestFrom, bestOf, revisionFrom, issued}
 use Rattle.attempts.specs.declared.rows.Best.{Best}
 use Rattle.attempts.specs.declared.Answer.{Answer}
@@ -28,7 +29,7 @@ pub record AttemptClaims : Type 0 where
   pub some : (l : List Answer) (m : Requests) (n : ℕ) → atQuorum m n ≡ true → bestOf l m n .found ≡ true
   -- "If that answer holds nothing, it writes its own offer, otherwise that answer's value", whatever these are. Wish 7 of document 02: it
   -- "holds nothing exactly while its write rank is 0"
-  pub revision : (x : Best) (offer : ℕ) → ((x .rank ≡ 0) × (revisionFrom x offer ≡ offer)) ⊎ ((0 < x .rank) × (revisionFrom x offer ≡ x .value))
+  pub revision : (x : Best) (offer : Suit) → ((x .rank ≡ 0) × (revisionFrom x offer ≡ offer)) ⊎ ((0 < x .rank) × (revisionFrom x offer ≡ x .value))
   -- "a read request waiting at every box"; "The write .. waits at every box"
-  pub reads-wait : (n s round v b : ℕ) → n ≤ 9 → b < n → isWaiting (standingOf (newRow n s round v .read) b) ≡ true
-  pub writes-wait : (w : Row) (v n b : ℕ) → n ≤ 9 → b < n → isWaiting (standingOf (issued w v n .write) b) ≡ true
+  pub reads-wait : (n s round b : ℕ) (v : Suit) → n ≤ 9 → b < n → isWaiting (standingOf (newRow n s round v .read) b) ≡ true
+  pub writes-wait : (w : Row) (v : Suit) (n b : ℕ) → n ≤ 9 → b < n → isWaiting (standingOf (issued w v n .write) b) ≡ true

@@ -6,6 +6,8 @@ use lib.ListN.{getD, set, replicate}
 use lib.Dec.{ltb}
 use Rattle.base.specs.Choice.{if_then_else_}
 use Rattle.base.specs.Numbers.{rankOf}
+use Rattle.suits.specs.Suits.{suit0}
+use Rattle.suits.specs.declared.Suit.{Suit}
 use Rattle.register.specs.Register.{ofDepartment, isHeld, rankIn, valueIn, holdsNothing, rmwRead, rmwWrite}
 use Rattle.register.specs.declared.Department.{Department}
 use Rattle.register.specs.declared.Department.the-variants.{Sails, Canvas}
@@ -20,14 +22,14 @@ use Rattle.attempts.specs.declared.Row.{Row}
 
 -- What a read past the end of an array gives by the language's own rule: 0, an array of no elements.
 abbrev pub answer0 : Answer
-answer0 = record { rank = 0; value = 0 }
+answer0 = record { rank = 0; value = suit0 }
 
 abbrev pub row0 : Row
-row0 = record { station = 0; rank = 0; offer = 0; written = 0; read = requests0; answers = []; write = requests0 }
+row0 = record { station = 0; rank = 0; offer = suit0; written = suit0; read = requests0; answers = []; write = requests0 }
 
 -- "On a new floor places not in use are 0, idle, not issued": a row that is not in use.
 abbrev pub unusedRow : Row
-unusedRow = record { station = 0; rank = 0; offer = 0; written = 0; read = noneIssued; answers = replicate 9 answer0; write = noneIssued }
+unusedRow = record { station = 0; rank = 0; offer = suit0; written = suit0; read = noneIssued; answers = replicate 9 answer0; write = noneIssued }
 
 -- Wish 6 of document 02: "Sails own rows 0 to 63 and canvas 64 to 127". The department that owns the row a, and the first row of a
 -- department; a department has 64 rows from there on.
@@ -55,13 +57,13 @@ withRequests phase w q =
     }
 
 -- "Begin (station, round, revision): a new row, a read request waiting at every box"
-unfoldable pub newRow : (n station round revision : ℕ) → Row
+unfoldable pub newRow : (n station round : ℕ) (revision : Suit) → Row
 newRow n station round revision =
     record {
       station = station;
       rank = rankOf round station;
       offer = revision;
-      written = 0;
+      written = suit0;
       read = issuedTo n;
       answers = replicate 9 answer0;
       write = noneIssued;
@@ -98,7 +100,7 @@ rowHeard phase w box = withRequests phase w (requestsHeard phase w box)
 
 -- The best answer found so far, or that none was found.
 abbrev pub noBest : Best
-noBest = record { found = false; rank = 0; value = 0 }
+noBest = record { found = false; rank = 0; value = suit0 }
 
 abbrev pub bestFrom : (answer : Answer) → Best
 bestFrom answer = record { found = true; rank = answer .rank; value = answer .value }
@@ -116,10 +118,10 @@ bestOf answers q zero = noBest
 bestOf answers q (suc k) = better (bestOf answers q k) (heardFrom q k) (getD answers k answer0)
 
 -- "If that answer holds nothing, it writes its own offer, otherwise that answer's value", which may be revision 0 (wish 7).
-unfoldable pub revisionFrom : (x : Best) (offer : ℕ) → ℕ
+unfoldable pub revisionFrom : (x : Best) (offer : Suit) → Suit
 revisionFrom x offer = if holdsNothing (x .rank) then offer else x .value
 
-unfoldable pub revisionOf : (w : Row) (n : ℕ) → ℕ
+unfoldable pub revisionOf : (w : Row) (n : ℕ) → Suit
 revisionOf w n = revisionFrom (bestOf (w .answers) (w .read) n) (w .offer)
 
 -- Wish 5 of document 02: the read or the write of the row waits at the box.
@@ -131,7 +133,7 @@ unfoldable pub usedAfter : (used : ℕ) → ℕ
 usedAfter used = if ltb used 64 then used + 1 else used
 
 -- "The write carries the attempt's own rank, waits at every box": the row with its write issued, none of it answered
-unfoldable pub issued : (w : Row) (revision n : ℕ) → Row
+unfoldable pub issued : (w : Row) (revision : Suit) (n : ℕ) → Row
 issued w revision n =
     record {
       station = w .station;

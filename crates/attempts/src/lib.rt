@@ -2,6 +2,7 @@
 use register::Department;
 use register::Register;
 use requests::Requests;
+use suits::Suit;
 
 mod rows;
 mod states;
@@ -37,7 +38,7 @@ pub enum State {
 // Whether a station decided, and which revision. Revision 0, "do not cut", is one like any other.
 pub enum Decision {
     None,
-    Revision(u32),
+    Revision(Suit),
 }
 
 // A station: the paper's client, of one department. Its last round and what it decided survive its going.
@@ -51,15 +52,15 @@ pub struct Station {
 // What a box answered to a read: its write rank and value, 0 and 0 where the read was outranked.
 pub struct Answer {
     pub rank: u32,
-    pub value: u32,
+    pub value: Suit,
 }
 
 // The row of an attempt (the paper's invocation of decide with one rank): its two phases, and what its reads were answered.
 pub struct Row {
     pub station: u8,
     pub rank: u32,
-    pub offer: u32,
-    pub written: u32,
+    pub offer: Suit,
+    pub written: Suit,
     pub read: Requests,
     pub answers: [Answer; 9],
     pub write: Requests,

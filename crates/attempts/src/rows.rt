@@ -11,12 +11,13 @@ use register::Department;
 use register::Register;
 use requests::Phase;
 use requests::Requests;
+use suits::Suit;
 
 // The best of the answers looked at so far, if there was one.
 pub struct Best {
     pub found: bool,
     pub rank: u32,
-    pub value: u32,
+    pub value: Suit,
 }
 
 // The department that owns the row a.
@@ -43,15 +44,19 @@ pub fn first_row(d: Department) -> u8
 pub fn unused() -> Row
     ensures { λ r. ⌜ r ≡ unusedRow ⌝ }
 {
-    let none = Answer { rank: 0, value: 0 };
+    let blank = suits::none();
+    let none = Answer {
+        rank: 0,
+        value: blank,
+    };
     let answers = [none; 9];
     let read = requests::none_issued();
     let write = requests::none_issued();
     Row {
         station: 0,
         rank: 0,
-        offer: 0,
-        written: 0,
+        offer: blank,
+        written: blank,
         read,
         answers,
         write,
@@ -69,10 +74,14 @@ pub fn requests_of(w: Row, p: Phase) -> Requests
 }
 
 // The row of an attempt that begins.
-pub fn new_row(n: u8, s: u8, round: u16, v: u32) -> Row
+pub fn new_row(n: u8, s: u8, round: u16, v: Suit) -> Row
     ensures { λ r. ⌜ r ≡ newRow n s round v ⌝ }
 {
-    let none = Answer { rank: 0, value: 0 };
+    let blank = suits::none();
+    let none = Answer {
+        rank: 0,
+        value: blank,
+    };
     let answers = [none; 9];
     let read = requests::issued(n);
     let write = requests::none_issued();
@@ -80,7 +89,7 @@ pub fn new_row(n: u8, s: u8, round: u16, v: u32) -> Row
         station: s,
         rank: (round as u32) * 16 + (s as u32),
         offer: v,
-        written: 0,
+        written: blank,
         read,
         answers,
         write,
@@ -203,6 +212,7 @@ pub fn with_requests(w: Row, p: Phase, h: Requests) -> Row
 fn better_of(x: Best, received: bool, s: Answer) -> Best
     ensures { λ r. ⌜ r ≡ better x received s ⌝ }
 {
+    let value = s.value;
     if !received {
         return x;
     }
@@ -210,14 +220,14 @@ fn better_of(x: Best, received: bool, s: Answer) -> Best
         return Best {
             found: true,
             rank: s.rank,
-            value: s.value,
+            value,
         };
     }
     if x.rank < s.rank {
         return Best {
             found: true,
             rank: s.rank,
-            value: s.value,
+            value,
         };
     }
     x
@@ -227,10 +237,11 @@ fn best_of(answers: [Answer; 9], h: Requests, n: u8) -> Best
     requires { ⌜ n ≤ 9 ⌝ }
     ensures { λ r. ⌜ r ≡ bestOf answers h n ⌝ }
 {
+    let value = suits::none();
     let mut x = Best {
         found: false,
         rank: 0,
-        value: 0,
+        value,
     };
     let mut k: u8 = 0;
     while k < n {
@@ -242,7 +253,7 @@ fn best_of(answers: [Answer; 9], h: Requests, n: u8) -> Best
     x
 }
 
-fn revision_below(w: Row, n: u8) -> u32
+fn revision_below(w: Row, n: u8) -> Suit
     requires { ⌜ n ≤ 9 ⌝ }
     ensures { λ r. ⌜ r ≡ revisionOf w n ⌝ }
 {
@@ -256,7 +267,7 @@ fn revision_below(w: Row, n: u8) -> u32
 }
 
 // The revision that the attempt writes. From box 9 on there is no answer that could be better.
-pub fn revision_of(w: Row, n: u8) -> u32
+pub fn revision_of(w: Row, n: u8) -> Suit
     ensures { λ r. ⌜ r ≡ revisionOf w n ⌝ }
 {
     if n <= 9 {
@@ -266,7 +277,7 @@ pub fn revision_of(w: Row, n: u8) -> u32
 }
 
 // The row with its write of v issued.
-pub fn issue(w: Row, v: u32, n: u8) -> Row
+pub fn issue(w: Row, v: Suit, n: u8) -> Row
     ensures { λ r. ⌜ r ≡ issued w v n ⌝ }
 {
     let write = requests::issued(n);

@@ -16,7 +16,7 @@ use Rattle.commands.specs.declared.Command.the-variants.{Begin, Serve, D
 
 pub decode-encode : (c : Command) → commandOf (encodeOf c) ≡ c
 unfolding commandOf spared allZero if_then_else_
-decode-encode (Begin s round v) = rw (word16-of-bytes round, word32-of-bytes v)
+decode-encode (Begin s round v) = rw (word16-of-bytes round, word32-of-bytes (v .r0))
 decode-encode (Serve Read a b) = refl
 decode-encode (Serve Write a b) = refl
 decode-encode (Deliver Read a b) = refl

@@ -6,6 +6,7 @@ use lib.ListN.{getD, drop, replicate}
 use lib.Dec.{eqb}
 use Rattle.base.specs.Choice.{if_then_else_}
 use Rattle.base.specs.Bytes.{word16, word32, bytes16, bytes32}
+use Rattle.suits.specs.Suits.{single}
 use Rattle.requests.specs.Requests.{ofPhase}
 use Rattle.requests.specs.declared.Phase.the-variants.{Read, Write}
 use Rattle.commands.specs.declared.Command.{Command}
@@ -28,7 +29,7 @@ spared spare c = if allZero spare then c else Malformed
 unfoldable pub commandOf : (r : List ℕ) → Command
 commandOf r =
     if eqb (getD r 0 0) 1 then
-    Begin (getD r 1 0) (word16 (getD r 2 0) (getD r 3 0)) (word32 (getD r 4 0) (getD r 5 0) (getD r 6 0) (getD r 7 0))
+    Begin (getD r 1 0) (word16 (getD r 2 0) (getD r 3 0)) (single (word32 (getD r 4 0) (getD r 5 0) (getD r 6 0) (getD r 7 0)))
     else if eqb (getD r 0 0) 2 then spared (drop 3 r) (Serve Read (getD r 1 0) (getD r 2 0))
     else if eqb (getD r 0 0) 3 then spared (drop 3 r) (Serve Write (getD r 1 0) (getD r 2 0))
     else if eqb (getD r 0 0) 4 then spared (drop 3 r) (Deliver Read (getD r 1 0) (getD r 2 0))
@@ -41,7 +42,7 @@ commandOf r =
 
 -- the record of a command, in the same layout, a stop's of kind 8, which the writer of files passes; that of `Malformed` is of kind 0
 abbrev pub encodeOf : (c : Command) → List ℕ
-encodeOf (Begin s round v) = 1 ∷ s ∷ (bytes16 round ++ bytes32 v)
+encodeOf (Begin s round v) = 1 ∷ s ∷ (bytes16 round ++ bytes32 (v .r0))
 encodeOf (Serve p a b) = ofPhase p 2 3 ∷ a ∷ b ∷ 0 ∷ 0 ∷ 0 ∷ 0 ∷ 0 ∷ []
 encodeOf (Deliver p a b) = ofPhase p 4 5 ∷ a ∷ b ∷ 0 ∷ 0 ∷ 0 ∷ 0 ∷ 0 ∷ []
 encodeOf (Stop b) = 8 ∷ b ∷ 0 ∷ 0 ∷ 0 ∷ 0 ∷ 0 ∷ 0 ∷ []

@@ -5,6 +5,7 @@ ghost use Prim.Native.Nat.{_≤_};
 ghost use Rattle.requests.specs.Requests.{ofPhase};
 ghost use Rattle.commands.specs.Commands.{allZero, spared, commandOf, encodeOf};
 use requests::Phase;
+use suits::Suit;
 
 mod outcomes;
 
@@ -16,7 +17,7 @@ pub use outcomes::value;
 // A step as its record's fields say it: station, round and revision; phase, attempt and box; box; station; box. `Malformed` is any
 // record that refusal 7 turns back.
 pub enum Command {
-    Begin(u8, u16, u32),
+    Begin(u8, u16, Suit),
     Serve(Phase, u8, u8),
     Deliver(Phase, u8, u8),
     Stop(u8),
@@ -31,8 +32,8 @@ pub enum Outcome {
     Served(u8),
     Received(u8),
     Aborted(u8),
-    WriteIssued(u32),
-    Decided(u32),
+    WriteIssued(Suit),
+    Decided(Suit),
     Stopped(u8),
     Gone(u8),
     Back(u8),
@@ -73,7 +74,7 @@ pub fn decode(r: [u8; 8]) -> Command
         1 => Command::Begin(
             r[1],
             base::be16(r[2], r[3]),
-            base::be32(r[4], r[5], r[6], r[7]),
+            suits::of_one(base::be32(r[4], r[5], r[6], r[7])),
         ),
         2 => spare(r, 3, Command::Serve(Phase::Read, r[1], r[2])),
         3 => spare(r, 3, Command::Serve(Phase::Write, r[1], r[2])),
@@ -105,7 +106,7 @@ pub fn encode(c: Command) -> [u8; 8]
     match c {
         Command::Begin(s, round, v) => {
             let r = base::split16(round);
-            let w = base::split32(v);
+            let w = base::split32(v.r0);
             [1, s, r[0], r[1], w[0], w[1], w[2], w[3]]
         }
         Command::Serve(p, a, b) => [by_phase(p, 2, 3), a, b, 0, 0, 0, 0, 0],

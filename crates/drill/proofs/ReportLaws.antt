@@ -4,7 +4,7 @@ use native.Mathlib.Omega.{arith}
 use mathlib.Core.Path.{_≡_, refl, sym, ap, _∙_}
 use mathlib.Core.List.{List}
 use lib.Dec.{eqb}
-use lib.ListN.{length, take, length-append}
+use lib.ListN.{length, length-append}
 use lib.Seq.{take-all}
 use borrow.Author.Tests.{eq-eqb, ne-eqb, eqb-true, eqb-false}
 use Rattle.base.proofs.Cases.{by-cases}
@@ -39,7 +39,7 @@ state-few state.Gone = omega arith
 decision-few : (x : Decision) → length (decisionWord x) ≤ 20
 unfolding ascii
 decision-few None = omega arith
-decision-few (Revision v) = digits-few 20 v
+decision-few (Revision v) = digits-few 20 (v .r0)
 
 panel-few : (label : List ℕ) (n m : ℕ) → length (panelLine label n m) ≤ 64 + length label
 unfolding ascii panelLine

@@ -3,6 +3,8 @@ use Prim.Native.Nat.{ℕ, _+_, _-_, _*_, _^_, _≤_, _<_}
 use mathlib.Core.Path.{_≡_}
 use mathlib.Core.List.{List, [], _∷_}
 use lib.ListN.{length}
+use Rattle.suits.specs.Suits.{suit0}
+use Rattle.suits.specs.declared.Suit.{Suit}
 use Rattle.attempts.specs.declared.Decision.the-variants.{None, Revision}
 use Rattle.drill_file.specs.DrillFile.{fileRefusal, labelOf}
 use Rattle.player.specs.Play.{playedOf}
@@ -16,8 +18,8 @@ spelt so (d ∷ digits) = spelt (so * 10 + (d - 48)) digits
 pub record ReportClaims : Type 0 where
   -- wish 7: "the drill prints `none` where it has not" decided, and nowhere else: a withdrawal is printed as 0
   pub none : decisionWord None ≡ ascii "none"
-  pub withdrawn : decisionWord (Revision 0) ≡ ascii "0"
-  pub decided : (v : ℕ) → ¬ (decisionWord (Revision v) ≡ ascii "none")
+  pub withdrawn : decisionWord (Revision suit0) ≡ ascii "0"
+  pub decided : (v : Suit) → ¬ (decisionWord (Revision v) ≡ ascii "none")
   -- what is printed of a number tells the number, for each of 64 bits
   pub number : (n : ℕ) → n < 10 ^ 20 → spelt 0 (decimalOf n) ≡ n
   -- which lines are printed, and that a buffer of 2,048 bytes has room for them

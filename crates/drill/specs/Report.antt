@@ -41,7 +41,7 @@ stateWord state.Gone = ascii "gone"
 -- "decided revision". Wish 7: "the drill prints `none` where it has not" decided; revision 0 is printed as any other.
 abbrev pub decisionWord : (x : Decision) → List ℕ
 decisionWord None = ascii "none"
-decisionWord (Revision v) = decimalOf v
+decisionWord (Revision v) = decimalOf (v .r0)
 
 -- "a line `panel`, label, `boxes`, n, `stations`, m"
 unfoldable pub panelLine : (label : List ℕ) (n m : ℕ) → List ℕ

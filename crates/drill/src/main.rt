@@ -74,7 +74,7 @@ fn put_decision(out: &mut [u8], at: usize, decided: Decision) -> usize
 {
     match decided {
         Decision::None => put(out, at, b"none\n"),
-        Decision::Revision(v) => put_number(out, at, v as u64, b"\n"),
+        Decision::Revision(v) => put_number(out, at, v.r0 as u64, b"\n"),
     }
 }
 

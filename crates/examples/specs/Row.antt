@@ -3,6 +3,7 @@ use Prim.Native.Nat.{ℕ}
 use mathlib.Core.Path.{_≡_}
 use mathlib.Core.Bool.{Bool}
 use mathlib.Core.List.{List, [], _∷_}
+use Rattle.suits.specs.declared.Suit.{Suit}
 use Rattle.register.specs.declared.Register.{Register}
 use Rattle.register.specs.declared.ReadDone.{ReadDone}
 use Rattle.register.specs.declared.WriteDone.{WriteDone}
@@ -48,7 +49,7 @@ pub data Shown : Type 0 where
   read : ReadDone → Shown
   wrote : WriteDone → Shown
   -- of an attempt: its rank, the answers received to its reads, and what the delivery of the last of them said
-  gathered : ℕ → List (ℕ × ℕ) → Outcome → Shown
+  gathered : ℕ → List (ℕ × Suit) → Outcome → Shown
   -- what each step of a run said
   said : List Outcome → Shown
   -- the answers to an attempt's write, and what the registers hold, at boxes 0, 1, ..

@@ -3,6 +3,8 @@ use Prim.Native.Nat.{ℕ, zero, suc, _+_}
 use mathlib.Core.Bool.{Bool}
 use mathlib.Core.List.{List, [], _∷_, map}
 use lib.ListN.{length, getD}
+use Rattle.suits.specs.Suits.{single}
+use Rattle.suits.specs.declared.Suit.{Suit}
 use Rattle.base.specs.Choice.{if_then_else_}
 use Rattle.register.specs.declared.Register.{Register}
 use Rattle.requests.specs.Requests.{slotAt, heardFrom}
@@ -40,7 +42,7 @@ abbrev pub saidAfter : (n : ℕ) (cs : List Command) → List Outcome
 saidAfter n cs = saidFrom (length cs) 0 (newFloor n) (map encodeOf cs)
 
 -- the answers to a row's reads, received from the k boxes from b on
-unfoldable pub answersFrom : (k b : ℕ) (w : Row) → List (ℕ × ℕ)
+unfoldable pub answersFrom : (k b : ℕ) (w : Row) → List (ℕ × Suit)
 answersFrom zero b w = []
 answersFrom (suc k) b w =
     if heardFrom (w .read) b then (getD (w .answers) b answer0 .rank, getD (w .answers) b answer0 .value) ∷ answersFrom k (b + 1) w
@@ -62,7 +64,7 @@ heldOn f = registerAt f Sails 0 ∷ registerAt f Sails 1 ∷ registerAt f Sails 
 -- on a floor of n boxes, some steps, and then a solo finish of station 0 with revision 7
 abbrev pub soloAfter : (n : ℕ) (cs : List Command) → Shown
 soloAfter n cs =
-    let d = soloOf (floorAfter n cs) 0 7 in
+    let d = soloOf (floorAfter n cs) 0 (single 7) in
     drove (d .steps) (d .outcome)
 
 -- the lines of k stations from s on
@@ -88,18 +90,18 @@ printedOf file =
 
 -- G: attempt 0 (rank 16, 7) has written at box 1; attempt 1 (rank 33) reads at box 0, where nothing was written, and at box 1
 abbrev pub runG : List Command
-runG = Begin 0 1 7 ∷ Serve Read 0 0 ∷ Deliver Read 0 0 ∷ Serve Read 0 1 ∷ Deliver Read 0 1 ∷ Serve Write 0 1
-    ∷ Begin 1 2 9 ∷ Serve Read 1 0 ∷ Deliver Read 1 0 ∷ Serve Read 1 1 ∷ []
+runG = Begin 0 1 (single 7) ∷ Serve Read 0 0 ∷ Deliver Read 0 0 ∷ Serve Read 0 1 ∷ Deliver Read 0 1 ∷ Serve Write 0 1
+    ∷ Begin 1 2 (single 9) ∷ Serve Read 1 0 ∷ Deliver Read 1 0 ∷ Serve Read 1 1 ∷ []
 
 -- H: an attempt reads at boxes 0 and 1, where nothing was written
 abbrev pub runH : List Command
-runH = Begin 0 1 7 ∷ Serve Read 0 0 ∷ Deliver Read 0 0 ∷ Serve Read 0 1 ∷ []
+runH = Begin 0 1 (single 7) ∷ Serve Read 0 0 ∷ Deliver Read 0 0 ∷ Serve Read 0 1 ∷ []
 
 -- I: "Attempt 0 (rank 16, 7) has read at boxes 0 and 1. Attempt 1 (rank 17, 9) reads and writes at 1 and 2 and decides 9. Attempt
 -- 0's write is taken at 0, not at 1: it aborts. Its write at 2, served after that, is not taken."
 abbrev pub runI : List Command
-runI = Begin 0 1 7 ∷ Serve Read 0 0 ∷ Deliver Read 0 0 ∷ Serve Read 0 1 ∷ Deliver Read 0 1
-    ∷ Begin 1 1 9 ∷ Serve Read 1 1 ∷ Deliver Read 1 1 ∷ Serve Read 1 2 ∷ Deliver Read 1 2
+runI = Begin 0 1 (single 7) ∷ Serve Read 0 0 ∷ Deliver Read 0 0 ∷ Serve Read 0 1 ∷ Deliver Read 0 1
+    ∷ Begin 1 1 (single 9) ∷ Serve Read 1 1 ∷ Deliver Read 1 1 ∷ Serve Read 1 2 ∷ Deliver Read 1 2
     ∷ Serve Write 1 1 ∷ Deliver Write 1 1 ∷ Serve Write 1 2 ∷ Deliver Write 1 2
     ∷ Serve Write 0 0 ∷ Deliver Write 0 0 ∷ Serve Write 0 1 ∷ Deliver Write 0 1 ∷ Serve Write 0 2 ∷ []
 

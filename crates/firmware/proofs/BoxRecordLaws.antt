@@ -7,6 +7,7 @@ use lib.Dec.{leb}
 use lib.ListN.{length, take, drop, drop-of-length-le}
 use lib.Seq.{drop-drop, take-add, take-all}
 use borrow.Author.Tests.{le-leb}
+use Rattle.suits.specs.Suits.{single}
 use Rattle.base.specs.Choice.{if_then_else_}
 use Rattle.base.proofs.Choices.{chosen}
 use Rattle.base.specs.Bytes.{Bytes, bytes32, wordAt, withWord}
@@ -15,7 +16,7 @@ use Rattle.register.specs.declared.Register.{Register}
 use Rattle.firmware.specs.Firmware.{encode, decode, replyOf}
 use Rattle.firmware.specs.Claims.{Fits32}
 
-same-register : {x : Register} {a b c : ℕ} → a ≡ x .read → b ≡ x .write → c ≡ x .value → record { read = a; write = b; value = c } ≡ x
+same-register : {x : Register} {a b c : ℕ} → a ≡ x .read → b ≡ x .write → c ≡ x .value .r0 → record { read = a; write = b; value = single c } ≡ x
 same-register e f g = rw (e, f, g)
 
 -- a word that the bytes have room for is read
@@ -27,7 +28,7 @@ pub decode-words : (s : List ℕ) {a b c : ℕ} → length s ≡ 12
     → a ≡ (if leb 4 (length s) then wordAt s 0 else 0)
     → b ≡ (if leb 8 (length s) then wordAt s 4 else 0)
     → c ≡ (if leb 12 (length s) then wordAt s 8 else 0)
-    → record { read = a; write = b; value = c } ≡ decode s
+    → record { read = a; write = b; value = single c } ≡ decode s
 unfolding decode
 decode-words s h e f g = same-register (word-read s 0 (omega arith) e) (word-read s 4 (omega arith) f) (word-read s 8 (omega arith) g)
 
@@ -35,15 +36,15 @@ decode-words s h e f g = same-register (word-read s 0 (omega arith) e) (word-rea
 pub record-stored : (s s₁ s₂ s₃ : List ℕ) (x : Register) → length s ≡ 12
     → s₁ ≡ (if leb 4 (length s) then withWord s 0 (x .read) else s)
     → s₂ ≡ (if leb 8 (length s₁) then withWord s₁ 4 (x .write) else s₁)
-    → s₃ ≡ (if leb 12 (length s₂) then withWord s₂ 8 (x .value) else s₂)
+    → s₃ ≡ (if leb 12 (length s₂) then withWord s₂ 8 (x .value .r0) else s₂)
     → s₃ ≡ encode x
 unfolding encode withWord
 record-stored s s₁ s₂ s₃ x h f₁ f₂ f₃ =
     let e₁ = word-stored s s₁ 0 (x .read) (omega arith) f₁ in
     let e₂ = word-stored s₁ s₂ 4 (x .write) (omega arith) f₂ in
-    let e₃ = word-stored s₂ s₃ 8 (x .value) (omega arith) f₃ in
-    e₃ .0 ∙ ap (λ (t : List ℕ). withWord t 8 (x .value)) (e₂ .0 ∙ ap (λ (t : List ℕ). withWord t 4 (x .write)) (e₁ .0)) ∙
-    ap (λ (t : List ℕ). bytes32 (x .read) ++ (bytes32 (x .write) ++ (bytes32 (x .value) ++ t)))
+    let e₃ = word-stored s₂ s₃ 8 (x .value .r0) (omega arith) f₃ in
+    e₃ .0 ∙ ap (λ (t : List ℕ). withWord t 8 (x .value .r0)) (e₂ .0 ∙ ap (λ (t : List ℕ). withWord t 4 (x .write)) (e₁ .0)) ∙
+    ap (λ (t : List ℕ). bytes32 (x .read) ++ (bytes32 (x .write) ++ (bytes32 (x .value .r0) ++ t)))
     (ap (drop 4) (drop-drop 4 4 s) ∙ drop-drop 4 8 s ∙ drop-of-length-le s {i = 12} (omega (arith, h)))
 
 pub reply-stored : (s s₁ s₂ : List ℕ) (rank value : ℕ) → length s ≡ 8
@@ -60,7 +61,7 @@ reply-stored s s₁ s₂ rank value h f₁ f₂ =
 -- what was encoded is decoded
 pub decode-encode : (x : Register) → decode (encode x) ≡ x
 unfolding encode decode wordAt
-decode-encode x = same-register (word32-of-bytes (x .read)) (word32-of-bytes (x .write)) (word32-of-bytes (x .value))
+decode-encode x = same-register (word32-of-bytes (x .read)) (word32-of-bytes (x .write)) (word32-of-bytes (x .value .r0))
 
 -- an encoded register is 12 bytes
 pub encode-length : (x : Register) → length (encode x) ≡ 12

@@ -9,6 +9,8 @@ use native.Mathlib.Omega.{arith}
 use lib.Dec.{eqb}
 use lib.ListN.{length, replicate}
 use borrow.Author.Tests.{eq-eqb, ne-eqb}
+use Rattle.suits.specs.declared.Suit.{Suit}
+use Rattle.suits.specs.Suits.{single}
 use Rattle.base.specs.Bytes.{Bytes}
 use Rattle.base.proofs.Choices.{on-true, on-false, by-test}
 use Rattle.register.specs.Register.{isHeld, numberIn, rankIn, valueIn, rmwRead, takes, rmwWrite}
@@ -46,7 +48,7 @@ module _ (x : Register) (r : ℕ) (f : Fits32 x) (g : r < 2 ^ 32) where
   pub read-fits : Fits32 (rmwRead x r .register)
   read-fits = fits-after (read-case x r)
 
-  pub write-fits : (v : ℕ) → v < 2 ^ 32 → Fits32 (rmwWrite x r v .register)
+  pub write-fits : (v : ℕ) → v < 2 ^ 32 → Fits32 (rmwWrite x r (single v) .register)
   unfolding rmwWrite
   write-fits v k =
       by-test (λ (d : WriteDone). Fits32 (d .register)) (takes x r) _ _ (λ _. record { read = f .read; write = g; value = k }) (λ _. f)
@@ -108,7 +110,7 @@ module _ (s : List ℕ) (r : ℕ) (p : List ℕ) where
     unfolding recordAfterRead
     read-record = on-true _ zero-read refl
 
-    read-filled : replyOf (rankIn (rmwRead (decode s) r .answer)) (valueIn (rmwRead (decode s) r .answer)) ≡ replyAfterRead s r p
+    read-filled : replyOf (rankIn (rmwRead (decode s) r .answer)) (valueIn (rmwRead (decode s) r .answer) .r0) ≡ replyAfterRead s r p
     unfolding replyAfterRead
     read-filled = on-true _ zero-read refl
 
@@ -130,17 +132,17 @@ module _ (s : List ℕ) (r : ℕ) (p : List ℕ) where
           let e = read-100 hs hp n (ap isHeld (answer-is Outranked q)) in
           (e, (read-kept 100 refl e, ep ∙ read-zeroed e))
 
-      pub read-ends-0 : (w v : ℕ) → d .answer ≡ Held w v → (s′ p′ : List ℕ) → s′ ≡ encode (d .register) → p′ ≡ replyOf w v
+      pub read-ends-0 : (w : ℕ) (v : Suit) → d .answer ≡ Held w v → (s′ p′ : List ℕ) → s′ ≡ encode (d .register) → p′ ≡ replyOf w (v .r0)
           → (0 ≡ readAnswer s r p) × ((s′ ≡ recordAfterRead s r p) × (p′ ≡ replyAfterRead s r p))
       read-ends-0 w v q s′ p′ es ep =
           let a = answer-is (Held w v) q in
           let e = read-0 hs hp n (ap isHeld a) in
-          (e, (es ∙ ap (λ (y : ReadDone). encode (y .register)) made-read ∙ read-record e, ep ∙ ap (λ (y : ReadAnswer). replyOf (rankIn y) (valueIn y)) (sym a) ∙ read-filled e))
+          (e, (es ∙ ap (λ (y : ReadDone). encode (y .register)) made-read ∙ read-record e, ep ∙ ap (λ (y : ReadAnswer). replyOf (rankIn y) (valueIn y .r0)) (sym a) ∙ read-filled e))
 
     -- the record then holds the register that the routine by value gives, outranked or not, and the reply the answer's rank and value
     record Called (d : ReadDone) : Type 0 where
       routine : decode (recordAfterRead s r p) ≡ d .register
-      reply : replyOf (rankIn (d .answer)) (valueIn (d .answer)) ≡ replyAfterRead s r p
+      reply : replyOf (rankIn (d .answer)) (valueIn (d .answer) .r0) ≡ replyAfterRead s r p
 
     called : {d : ReadDone} → done ≡ d → ReadCase (decode s) r d → Called d
     unfolding replyOf
@@ -151,13 +153,13 @@ module _ (s : List ℕ) (r : ℕ) (p : List ℕ) where
         let e = read-0 hs hp n (ap (λ (y : ReadDone). isHeld (y .answer)) q) in
         record {
           routine = ap decode (sym (read-record e)) ∙ decode-encode _ ∙ ap (λ (y : ReadDone). y .register) q;
-          reply = ap (λ (y : ReadDone). replyOf (rankIn (y .answer)) (valueIn (y .answer))) (sym q) ∙ read-filled e;
+          reply = ap (λ (y : ReadDone). replyOf (rankIn (y .answer)) (valueIn (y .answer) .r0)) (sym q) ∙ read-filled e;
         }
 
     pub read-routine : decode (recordAfterRead s r p) ≡ done .register
     read-routine = called refl (read-case (decode s) r) .routine
 
-    pub read-reply : replyOf (rankIn (done .answer)) (valueIn (done .answer)) ≡ replyAfterRead s r p
+    pub read-reply : replyOf (rankIn (done .answer)) (valueIn (done .answer) .r0) ≡ replyAfterRead s r p
     read-reply = called refl (read-case (decode s) r) .reply
 
   -- record and reply stay lists of bytes
@@ -166,7 +168,7 @@ module _ (s : List ℕ) (r : ℕ) (p : List ℕ) where
     unfolding recordAfterRead
     read-bytes g = by-test Bytes _ _ _ (λ _. encode-bytes _ (read-fits (decode s) r (decode-fits s b) g)) (λ _. b)
 
-    answer-bytes : {d : ReadDone} → ReadCase (decode s) r d → Bytes (replyOf (rankIn (d .answer)) (valueIn (d .answer)))
+    answer-bytes : {d : ReadDone} → ReadCase (decode s) r d → Bytes (replyOf (rankIn (d .answer)) (valueIn (d .answer) .r0))
     unfolding replyOf
     answer-bytes (outranked h) = omega arith
     answer-bytes (answered h k) = let f = decode-fits s b in omega arith
@@ -191,23 +193,23 @@ module _ (s : List ℕ) (r v : ℕ) where
   write-kept a n e = on-false _ (ap (λ (x : ℕ). eqb x 0) (sym e) ∙ n) refl
 
   -- after answer 0 it is that of the register after the write
-  pub write-record : 0 ≡ writeAnswer s r v → encode (rmwWrite (decode s) r v .register) ≡ recordAfterWrite s r v
+  pub write-record : 0 ≡ writeAnswer s r v → encode (rmwWrite (decode s) r (single v) .register) ≡ recordAfterWrite s r v
   unfolding recordAfterWrite
   write-record e = on-true _ (ap (λ (x : ℕ). eqb x 0) (sym e)) refl
 
   module _ (h : length s ≡ 12) (n : r ≡ 0 → ⊥) where
-    pub write-0 : rmwWrite (decode s) r v .taken ≡ true → 0 ≡ writeAnswer s r v
+    pub write-0 : rmwWrite (decode s) r (single v) .taken ≡ true → 0 ≡ writeAnswer s r v
     unfolding writeAnswer
     write-0 t = on-false _ (this _ 12 h) (on-false _ (ne-eqb r 0 n) (on-true _ t refl))
 
-    pub write-100 : rmwWrite (decode s) r v .taken ≡ false → 100 ≡ writeAnswer s r v
+    pub write-100 : rmwWrite (decode s) r (single v) .taken ≡ false → 100 ≡ writeAnswer s r v
     unfolding writeAnswer
     write-100 t = on-false _ (this _ 12 h) (on-false _ (ne-eqb r 0 n) (on-false _ t refl))
 
     -- as the code comes to it, from what was loaded and what the routine made of it
-    module _ (x : Register) (d : WriteDone) (ex : x ≡ decode s) (ed : d ≡ rmwWrite x r v) where
-      made : d ≡ rmwWrite (decode s) r v
-      made = ed ∙ ap (λ (y : Register). rmwWrite y r v) ex
+    module _ (x : Register) (d : WriteDone) (ex : x ≡ decode s) (ed : d ≡ rmwWrite x r (single v)) where
+      made : d ≡ rmwWrite (decode s) r (single v)
+      made = ed ∙ ap (λ (y : Register). rmwWrite y r (single v)) ex
 
       pub write-ends-100 : d .taken ≡ false → (100 ≡ writeAnswer s r v) × (s ≡ recordAfterWrite s r v)
       write-ends-100 t =
@@ -219,12 +221,12 @@ module _ (s : List ℕ) (r v : ℕ) where
           (e, es ∙ ap (λ (y : WriteDone). encode (y .register)) made ∙ write-record e)
 
     -- the record decodes to the register that the routine by value gives, taken or not
-    pub write-routine : decode (recordAfterWrite s r v) ≡ rmwWrite (decode s) r v .register
-    write-routine = by-taken (rmwWrite (decode s) r v .taken) refl
+    pub write-routine : decode (recordAfterWrite s r v) ≡ rmwWrite (decode s) r (single v) .register
+    write-routine = by-taken (rmwWrite (decode s) r (single v) .taken) refl
       where
-        by-taken : (t : Bool) → rmwWrite (decode s) r v .taken ≡ t → decode (recordAfterWrite s r v) ≡ rmwWrite (decode s) r v .register
+        by-taken : (t : Bool) → rmwWrite (decode s) r (single v) .taken ≡ t → decode (recordAfterWrite s r v) ≡ rmwWrite (decode s) r (single v) .register
         by-taken true t = ap decode (sym (write-record (write-0 t))) ∙ decode-encode _
-        by-taken false t = ap decode (sym (write-kept 100 refl (write-100 t))) ∙ sym (ap (λ (y : WriteDone). y .register) (write-refused (decode s) r v (sym (write-answers (decode s) r v) ∙ t)))
+        by-taken false t = ap decode (sym (write-kept 100 refl (write-100 t))) ∙ sym (ap (λ (y : WriteDone). y .register) (write-refused (decode s) r (single v) (sym (write-answers (decode s) r (single v)) ∙ t)))
 
   -- the record stays a list of bytes
   pub write-bytes : Bytes s → r < 2 ^ 32 → v < 2 ^ 32 → Bytes (recordAfterWrite s r v)

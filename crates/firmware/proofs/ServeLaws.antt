@@ -7,6 +7,7 @@ use mathlib.Core.List.{List}
 use lib.Dec.{eqb, ltb}
 use lib.ListN.{length, drop}
 use borrow.Author.Tests.{eqb-true, eqb-false, eq-eqb, ne-eqb, not-false}
+use Rattle.suits.specs.Suits.{single}
 use Rattle.base.specs.Bytes.{Bytes}
 use Rattle.base.specs.Choice.{if_then_else_}
 use Rattle.base.proofs.Cases.{by-cases}
@@ -47,7 +48,7 @@ module _ (s : List ℕ) (r : ℕ) where
     unfolding readServed
     read-done m e = on-false _ (this (length s) 12 h) (rw (e, read-made))
 
-    pub serves-held : isHeld (d .answer) ≡ true → (w v : ℕ) → w ≡ rankIn (d .answer) → v ≡ valueIn (d .answer) → Served (d .register) (ReadAnswer w v) ≡ readServed s r
+    pub serves-held : isHeld (d .answer) ≡ true → (w v : ℕ) → w ≡ rankIn (d .answer) → v ≡ valueIn (d .answer) .r0 → Served (d .register) (ReadAnswer w v) ≡ readServed s r
     unfolding answerToRead
     serves-held t w v f g = read-done (ReadAnswer w v) (on-true _ t (rw (f, g)))
 
@@ -60,10 +61,10 @@ module _ (s : List ℕ) (r : ℕ) where
     unfolding writeServed
     write-turned n = on-true _ (other (length s) 12 n) refl
 
-    module _ (h : length s ≡ 12) (x : Register) (d : WriteDone) (ex : x ≡ decode s) (ed : d ≡ rmwWrite x r v) where
+    module _ (h : length s ≡ 12) (x : Register) (d : WriteDone) (ex : x ≡ decode s) (ed : d ≡ rmwWrite x r (single v)) where
       write-done : (m : Message) → m ≡ answerToWrite d → Served (d .register) m ≡ writeServed s r v
       unfolding writeServed
-      write-done m e = on-false _ (this (length s) 12 h) (rw (e, ed ∙ ap (λ (y : Register). rmwWrite y r v) ex))
+      write-done m e = on-false _ (this (length s) 12 h) (rw (e, ed ∙ ap (λ (y : Register). rmwWrite y r (single v)) ex))
 
       pub serves-taken : d .taken ≡ true → Served (d .register) Taken ≡ writeServed s r v
       unfolding answerToWrite
@@ -192,13 +193,13 @@ module _ (s input : List ℕ) (r : ℕ) (e : parsed input ≡ Accepted (ReadRequ
   serves-read b z = said-answered s input _ e _ _ (read-on-twelve (on-twelve s input (length b) (ReadRequest r) e (omega arith) z)) b z
 
 module _ (s input : List ℕ) (r v : ℕ) (e : parsed input ≡ Accepted (WriteRequest r v)) where
-  write-on-twelve : length s ≡ 12 → writeServed s r v ≡ Served (rmwWrite (decode s) r v .register) (answerToWrite (rmwWrite (decode s) r v))
-  write-on-twelve h = sym (write-done s r v h (decode s) (rmwWrite (decode s) r v) refl refl _ refl)
+  write-on-twelve : length s ≡ 12 → writeServed s r v ≡ Served (rmwWrite (decode s) r (single v) .register) (answerToWrite (rmwWrite (decode s) r (single v)))
+  write-on-twelve h = sym (write-done s r v h (decode s) (rmwWrite (decode s) r (single v)) refl refl _ refl)
 
-  pub says-write-room : (room : ℕ) → length s ≡ 12 → serveAnswer s input room ≡ (if ltb room (length (frameOf (answerToWrite (rmwWrite (decode s) r v)))) then 18 else 0)
+  pub says-write-room : (room : ℕ) → length s ≡ 12 → serveAnswer s input room ≡ (if ltb room (length (frameOf (answerToWrite (rmwWrite (decode s) r (single v))))) then 18 else 0)
   says-write-room room h = said-room s input _ e _ _ (write-on-twelve h) room (write-right _)
 
-  pub serves-write : (b : List ℕ) → serveAnswer s input (length b) ≡ 0 → Answered s input b (rmwWrite (decode s) r v .register) (answerToWrite (rmwWrite (decode s) r v))
+  pub serves-write : (b : List ℕ) → serveAnswer s input (length b) ≡ 0 → Answered s input b (rmwWrite (decode s) r (single v) .register) (answerToWrite (rmwWrite (decode s) r (single v)))
   serves-write b z = said-answered s input _ e _ _ (write-on-twelve (on-twelve s input (length b) (WriteRequest r v) e (omega arith) z)) b z
 
 -- ---- turned away, nothing is changed
@@ -222,7 +223,7 @@ module _ (s : List ℕ) (r : ℕ) (b : Bytes s) (h : length s ≡ 12) (n : ¬ (r
       by-cases (isHeld (rmwRead (decode s) r .answer))
       (λ t.
       let e = read-0 s r p h l n t in
-      let words = reply-words (rankIn (rmwRead (decode s) r .answer)) (valueIn (rmwRead (decode s) r .answer)) in
+      let words = reply-words (rankIn (rmwRead (decode s) r .answer)) (valueIn (rmwRead (decode s) r .answer) .r0) in
       (read-record s r p e, sym (on-true _ t refl) ∙ on-true _ (eq-eqb (readAnswer s r p) 0 (sym e)) (rw (← (read-reply s r p h l n), words .0, words .1))))
       (λ t.
       let e = read-100 s r p h l n t in (
@@ -230,13 +231,13 @@ module _ (s : List ℕ) (r : ℕ) (b : Bytes s) (h : length s ≡ 12) (n : ¬ (r
         sym (on-false _ t refl) ∙ on-false _ (ap (λ (x : ℕ). eqb x 0) (sym e)) refl,
       ))
 
-  pub as-box-write : (v : ℕ) → (encode (rmwWrite (decode s) r v .register) ≡ recordAfterWrite s r v) × (answerToWrite (rmwWrite (decode s) r v) ≡ noted (writeAnswer s r v))
+  pub as-box-write : (v : ℕ) → (encode (rmwWrite (decode s) r (single v) .register) ≡ recordAfterWrite s r v) × (answerToWrite (rmwWrite (decode s) r (single v)) ≡ noted (writeAnswer s r v))
   unfolding answerToWrite
   as-box-write v =
-      by-cases (rmwWrite (decode s) r v .taken)
+      by-cases (rmwWrite (decode s) r (single v) .taken)
       (λ t. let e = write-0 s r v h n t in (write-record s r v e, sym (on-true _ t refl) ∙ on-true _ (eq-eqb (writeAnswer s r v) 0 (sym e)) refl))
       (λ t.
       let e = write-100 s r v h n t in (
-        ap (λ (d : WriteDone). encode (d .register)) (write-refused (decode s) r v (sym (write-answers (decode s) r v) ∙ t)) ∙ encode-decode s b h ∙ write-kept s r v 100 refl e,
+        ap (λ (d : WriteDone). encode (d .register)) (write-refused (decode s) r (single v) (sym (write-answers (decode s) r (single v)) ∙ t)) ∙ encode-decode s b h ∙ write-kept s r v 100 refl e,
         sym (on-false _ t refl) ∙ on-false _ (ap (λ (x : ℕ). eqb x 0) (sym e)) refl,
       ))

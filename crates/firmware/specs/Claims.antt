@@ -6,6 +6,7 @@ use mathlib.Core.Bool.{true, false}
 use mathlib.Core.List.{List}
 use lib.Dec.{eqb, ltb}
 use lib.ListN.{length, drop, replicate}
+use Rattle.suits.specs.Suits.{single}
 use Rattle.base.specs.Bytes.{Bytes, wordAt}
 use Rattle.base.specs.Choice.{if_then_else_}
 use Rattle.register.specs.Register.{isHeld, rankIn, valueIn, rmwRead, rmwWrite}
@@ -23,7 +24,7 @@ use Rattle.firmware.specs.Serve.{answerToRead, answerToWrite, serveAnswe
 pub record Fits32 (x : Register) : Type 0 where
   pub read : x .read < 2 ^ 32
   pub write : x .write < 2 ^ 32
-  pub value : x .value < 2 ^ 32
+  pub value : x .value .r0 < 2 ^ 32
 
 pub record FirmwareClaims : Type 0 where
   -- a register's 12 bytes give it back, and 12 bytes are those of the register that they give
@@ -41,15 +42,15 @@ pub record FirmwareClaims : Type 0 where
   pub read-routine : (s : List ℕ) (r : ℕ) (p : List ℕ) → length s ≡ 12 → length p ≡ 8 → (r ≡ 0 → ⊥) → decode (recordAfterRead s r p) ≡ rmwRead (decode s) r .register
   -- and the reply has the answer's rank and value; outranked all 8 bytes are 0
   pub read-reply : (s : List ℕ) (r : ℕ) (p : List ℕ) → length s ≡ 12 → length p ≡ 8 → (r ≡ 0 → ⊥)
-      → replyOf (rankIn (rmwRead (decode s) r .answer)) (valueIn (rmwRead (decode s) r .answer)) ≡ replyAfterRead s r p
+      → replyOf (rankIn (rmwRead (decode s) r .answer)) (valueIn (rmwRead (decode s) r .answer) .r0) ≡ replyAfterRead s r p
   pub read-zeroed : (s : List ℕ) (r : ℕ) (p : List ℕ) → 100 ≡ readAnswer s r p → replicate 8 0 ≡ replyAfterRead s r p
   -- the same of a write of any revision v
   pub write-16 : (s : List ℕ) (r v : ℕ) → (length s ≡ 12 → ⊥) → 16 ≡ writeAnswer s r v
   pub write-17 : (s : List ℕ) (r v : ℕ) → length s ≡ 12 → r ≡ 0 → 17 ≡ writeAnswer s r v
-  pub write-0 : (s : List ℕ) (r v : ℕ) → length s ≡ 12 → (r ≡ 0 → ⊥) → rmwWrite (decode s) r v .taken ≡ true → 0 ≡ writeAnswer s r v
-  pub write-100 : (s : List ℕ) (r v : ℕ) → length s ≡ 12 → (r ≡ 0 → ⊥) → rmwWrite (decode s) r v .taken ≡ false → 100 ≡ writeAnswer s r v
+  pub write-0 : (s : List ℕ) (r v : ℕ) → length s ≡ 12 → (r ≡ 0 → ⊥) → rmwWrite (decode s) r (single v) .taken ≡ true → 0 ≡ writeAnswer s r v
+  pub write-100 : (s : List ℕ) (r v : ℕ) → length s ≡ 12 → (r ≡ 0 → ⊥) → rmwWrite (decode s) r (single v) .taken ≡ false → 100 ≡ writeAnswer s r v
   pub write-routine : (s : List ℕ) (r v : ℕ) → length s ≡ 12 → (r ≡ 0 → ⊥)
-      → decode (recordAfterWrite s r v) ≡ rmwWrite (decode s) r v .register
+      → decode (recordAfterWrite s r v) ≡ rmwWrite (decode s) r (single v) .register
   -- record and reply stay lists of bytes
   pub read-bytes : (s : List ℕ) (r : ℕ) (p : List ℕ) → Bytes s → r < 2 ^ 32 → Bytes (recordAfterRead s r p)
   pub reply-bytes : (s : List ℕ) (r : ℕ) (p : List ℕ) → Bytes s → Bytes p → Bytes (replyAfterRead s r p)
@@ -89,16 +90,16 @@ pub record ServeClaims : Type 0 where
   pub read-room : (s input : List ℕ) (room r : ℕ) → parsed input ≡ Accepted (ReadRequest r) → length s ≡ 12
       → serveAnswer s input room ≡ (if ltb room (length (frameOf (answerToRead (rmwRead (decode s) r)))) then 18 else 0)
   pub write-room : (s input : List ℕ) (room r v : ℕ) → parsed input ≡ Accepted (WriteRequest r v) → length s ≡ 12
-      → serveAnswer s input room ≡ (if ltb room (length (frameOf (answerToWrite (rmwWrite (decode s) r v)))) then 18 else 0)
+      → serveAnswer s input room ≡ (if ltb room (length (frameOf (answerToWrite (rmwWrite (decode s) r (single v))))) then 18 else 0)
   -- turned away, nothing is changed
   pub kept : (s input buffer : List ℕ) → ¬ (serveAnswer s input (length buffer) ≡ 0) → Kept s input buffer
   -- served, it is the box routine's doing
   pub read : (s input buffer : List ℕ) (r : ℕ) → parsed input ≡ Accepted (ReadRequest r) → serveAnswer s input (length buffer) ≡ 0
       → Answered s input buffer (rmwRead (decode s) r .register) (answerToRead (rmwRead (decode s) r))
   pub write : (s input buffer : List ℕ) (r v : ℕ) → parsed input ≡ Accepted (WriteRequest r v) → serveAnswer s input (length buffer) ≡ 0
-      → Answered s input buffer (rmwWrite (decode s) r v .register) (answerToWrite (rmwWrite (decode s) r v))
+      → Answered s input buffer (rmwWrite (decode s) r (single v) .register) (answerToWrite (rmwWrite (decode s) r (single v)))
   -- which is that of the box calls
   pub as-read : (s : List ℕ) (r : ℕ) (p : List ℕ) → Bytes s → length s ≡ 12 → length p ≡ 8 → ¬ (r ≡ 0)
       → (encode (rmwRead (decode s) r .register) ≡ recordAfterRead s r p) × (answerToRead (rmwRead (decode s) r) ≡ replied (readAnswer s r p) (replyAfterRead s r p))
   pub as-write : (s : List ℕ) (r v : ℕ) → Bytes s → length s ≡ 12 → ¬ (r ≡ 0)
-      → (encode (rmwWrite (decode s) r v .register) ≡ recordAfterWrite s r v) × (answerToWrite (rmwWrite (decode s) r v) ≡ noted (writeAnswer s r v))
+      → (encode (rmwWrite (decode s) r (single v) .register) ≡ recordAfterWrite s r v) × (answerToWrite (rmwWrite (decode s) r (single v)) ≡ noted (writeAnswer s r v))

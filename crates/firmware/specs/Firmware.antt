@@ -5,6 +5,7 @@ use mathlib.Core.Bool.{not, _||_}
 use mathlib.Core.List.{List, _++_}
 use lib.Dec.{eqb}
 use lib.ListN.{length, replicate}
+use Rattle.suits.specs.Suits.{single}
 use Rattle.base.specs.Choice.{if_then_else_}
 use Rattle.base.specs.Bytes.{bytes32, wordAt}
 use Rattle.register.specs.Register.{numberIn, rankIn, valueIn, rmwRead, rmwWrite}
@@ -12,11 +13,11 @@ use Rattle.register.specs.declared.Register.{Register}
 
 -- "a record of 12 bytes: read rank, write rank, value, each big-endian"
 unfoldable pub encode : (x : Register) → List ℕ
-encode x = bytes32 (x .read) ++ (bytes32 (x .write) ++ bytes32 (x .value))
+encode x = bytes32 (x .read) ++ (bytes32 (x .write) ++ bytes32 (x .value .r0))
 
 -- "Any record contents are accepted": the register that a record's bytes give, whatever they are
 unfoldable pub decode : (s : List ℕ) → Register
-decode s = record { read = wordAt s 0; write = wordAt s 4; value = wordAt s 8 }
+decode s = record { read = wordAt s 0; write = wordAt s 4; value = single (wordAt s 8) }
 
 -- "an 8-byte reply with write rank and value"
 unfoldable pub replyOf : (rank value : ℕ) → List ℕ
@@ -36,7 +37,7 @@ unfoldable pub writeAnswer : (s : List ℕ) (r v : ℕ) → ℕ
 writeAnswer s r v =
     if not (eqb (length s) 12) then 16
     else if eqb r 0 then 17
-    else if rmwWrite (decode s) r v .taken then 0
+    else if rmwWrite (decode s) r (single v) .taken then 0
     else 100
 
 -- The record and the reply after a call. "Floor, record and reply stay unchanged" where it was refused; a read that is outranked and a
@@ -47,9 +48,9 @@ recordAfterRead s r p = if eqb (readAnswer s r p) 0 then encode (rmwRead (decode
 -- outranked it "zeroes the reply"
 unfoldable pub replyAfterRead : (s : List ℕ) (r : ℕ) (p : List ℕ) → List ℕ
 replyAfterRead s r p =
-    if eqb (readAnswer s r p) 0 then replyOf (rankIn (rmwRead (decode s) r .answer)) (valueIn (rmwRead (decode s) r .answer))
+    if eqb (readAnswer s r p) 0 then replyOf (rankIn (rmwRead (decode s) r .answer)) (valueIn (rmwRead (decode s) r .answer) .r0)
     else if eqb (readAnswer s r p) 100 then replicate 8 0
     else p
 
 unfoldable pub recordAfterWrite : (s : List ℕ) (r v : ℕ) → List ℕ
-recordAfterWrite s r v = if eqb (writeAnswer s r v) 0 then encode (rmwWrite (decode s) r v .register) else s
+recordAfterWrite s r v = if eqb (writeAnswer s r v) 0 then encode (rmwWrite (decode s) r (single v) .register) else s

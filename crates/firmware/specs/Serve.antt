@@ -5,6 +5,7 @@ use mathlib.Core.Bool.{not}
 use mathlib.Core.List.{List}
 use lib.Dec.{eqb}
 use lib.ListN.{length}
+use Rattle.suits.specs.Suits.{single}
 use Rattle.base.specs.Choice.{if_then_else_}
 use Rattle.register.specs.Register.{isHeld, rankIn, valueIn, rmwRead, rmwWrite}
 use Rattle.register.specs.declared.ReadDone.{ReadDone}
@@ -21,7 +22,7 @@ use Rattle.firmware.specs.declared.Serving.the-variants.{TurnedAway, Ser
 
 -- the answer of a read as a message, "3 read answer (write rank, value)" or "4 outranked"; that of a write, "5 taken" or "6 not taken"
 unfoldable pub answerToRead : (d : ReadDone) → Message
-answerToRead d = if isHeld (d .answer) then ReadAnswer (rankIn (d .answer)) (valueIn (d .answer)) else Outranked
+answerToRead d = if isHeld (d .answer) then ReadAnswer (rankIn (d .answer)) (valueIn (d .answer) .r0) else Outranked
 
 unfoldable pub answerToWrite : (d : WriteDone) → Message
 answerToWrite d = if d .taken then Taken else NotTaken
@@ -35,7 +36,7 @@ readServed s rank =
 unfoldable pub writeServed : (s : List ℕ) (rank revision : ℕ) → Serving
 writeServed s rank revision =
     if not (eqb (length s) 12) then TurnedAway 16
-    else Served (rmwWrite (decode s) rank revision .register) (answerToWrite (rmwWrite (decode s) rank revision))
+    else Served (rmwWrite (decode s) rank (single revision) .register) (answerToWrite (rmwWrite (decode s) rank (single revision)))
 
 -- a message that is no request is turned away with 21, as an unknown kind is: to a box only 1 and 2 are kinds of request
 abbrev pub servedOf : (s : List ℕ) (m : Message) → Serving

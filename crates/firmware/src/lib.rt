@@ -6,6 +6,7 @@ use register::ReadAnswer;
 use register::Register;
 use register::rmw_read;
 use register::rmw_write;
+use suits::Suit;
 ghost use mathlib.Core.Path.{_≡_};
 ghost use lib.ListN.{length};
 ghost use Rattle.firmware.specs.Firmware.{decode, encode, replyOf, readAnswer, recordAfterRead, replyAfterRead, writeAnswer, recordAfterWrite};
@@ -31,7 +32,8 @@ fn load(s: &[u8]) -> Register
 {
     let read = base::get_u32(s, 0);
     let write = base::get_u32(s, 4);
-    let value = base::get_u32(s, 8);
+    let first = base::get_u32(s, 8);
+    let value = Suit { r0: first };
     Register { read, write, value }
 }
 
@@ -41,7 +43,7 @@ fn store(s: &mut [u8], x: Register)
 {
     base::put_u32(s, 0, x.read);
     base::put_u32(s, 4, x.write);
-    base::put_u32(s, 8, x.value);
+    base::put_u32(s, 8, x.value.r0);
 }
 
 fn store_reply(s: &mut [u8], rank: u32, value: u32)
@@ -74,7 +76,7 @@ pub extern "C" fn box_read(bytes: &mut [u8], rank: u32, reply: &mut [u8]) -> u32
     match answer {
         ReadAnswer::Held(write, value) => {
             store(bytes, after);
-            store_reply(reply, write, value);
+            store_reply(reply, write, value.r0);
             0
         }
         ReadAnswer::Outranked => {
@@ -95,7 +97,8 @@ pub extern "C" fn box_write(bytes: &mut [u8], rank: u32, revision: u32) -> u32
     } else if rank == 0 {
         return 17;
     }
-    let done = rmw_write(load(bytes), rank, revision);
+    let suit = Suit { r0: revision };
+    let done = rmw_write(load(bytes), rank, suit);
     let after = done.register;
     if done.taken {
         store(bytes, after);

@@ -8,6 +8,7 @@ use register::rank_in;
 use register::rmw_read;
 use register::rmw_write;
 use register::value_in;
+use suits::Suit;
 ghost use mathlib.Core.Path.{_≡_};
 ghost use lib.ListN.{length};
 ghost use Rattle.firmware.specs.Serve.{readServed, writeServed, servedOf, servedIn, serveAnswer, recordAfterServe, bufferAfterServe, sizeAfterServe};
@@ -23,10 +24,9 @@ fn serve_read(bytes: &[u8], rank: u32) -> Serving
     let after = done.register;
     let answer = done.answer;
     if held(answer) {
-        return Serving::Served(
-            after,
-            Message::ReadAnswer(rank_in(answer), value_in(answer)),
-        );
+        let rank2 = rank_in(answer);
+        let value = value_in(answer);
+        return Serving::Served(after, Message::ReadAnswer(rank2, value.r0));
     }
     Serving::Served(after, Message::Outranked)
 }
@@ -37,7 +37,8 @@ fn serve_write(bytes: &[u8], rank: u32, revision: u32) -> Serving
     if bytes.len() != 12 {
         return Serving::TurnedAway(16);
     }
-    let done = rmw_write(crate::load(bytes), rank, revision);
+    let suit = Suit { r0: revision };
+    let done = rmw_write(crate::load(bytes), rank, suit);
     let after = done.register;
     if done.taken {
         return Serving::Served(after, Message::Taken);

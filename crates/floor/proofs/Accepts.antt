@@ -3,6 +3,7 @@ use Prim.Native.Nat.{ℕ}
 use mathlib.Core.Path.{_≡_, refl, sym, ap, _∙_}
 use mathlib.Core.Logic.{_⊎_, inl, inr}
 use mathlib.Core.Bool.{true, false}
+use Rattle.suits.specs.declared.Suit.{Suit}
 use Rattle.base.proofs.Choices.{on-true, by-test}
 use Rattle.requests.specs.Requests.{atQuorum, allYes}
 use Rattle.requests.specs.declared.Phase.{Phase}
@@ -25,7 +26,7 @@ use Rattle.floor.proofs.RefusalLaws.{begin-holds, serve-holds, deliver-
 use Rattle.floor.proofs.StepLaws.{apply-accepted}
 
 module _ (f : Floor) (z : Sound f) where
-  pub begin-accepted : (s round v : ℕ) → CanBegin f s round → applyOf f (Begin s round v) ≡ stepped (afterBegin f s round v) (said.Begun (rowTaken f s))
+  pub begin-accepted : (s round : ℕ) (v : Suit) → CanBegin f s round → applyOf f (Begin s round v) ≡ stepped (afterBegin f s round v) (said.Begun (rowTaken f s))
   begin-accepted s round v d = apply-accepted f (Begin s round v) z (begin-holds f s round d)
 
   module _ (a b : ℕ) where

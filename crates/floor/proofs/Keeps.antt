@@ -8,6 +8,7 @@ use mathlib.Core.Bool.{true, false}
 use mathlib.Core.List.{List, []}
 use lib.ListN.{length, getD, set, length-set, getD-replicate}
 use lib.Seq.{getD-set-same, getD-set-other}
+use Rattle.suits.specs.declared.Suit.{Suit}
 use Rattle.base.specs.Numbers.{sizesRight}
 use Rattle.base.specs.Departments.{departmentsWrong}
 use Rattle.base.proofs.Choices.{by-test}
@@ -94,7 +95,7 @@ pub owner-kept : (l : List Row) (a : ℕ) (w : Row) → w .station ≡ getD l a 
 owner-kept l a w e = set-all row0 (λ (j : ℕ) (x : Row). x .station ≡ getD l j row0 .station) l a w (λ j. refl) e
 
 -- a row in use once a station began was in use before, unless it is the row taken; and that is in use
-pub begun-use : (f : Floor) (s round v j : ℕ) → InUse (afterBegin f s round v) j → ¬ (j ≡ rowTaken f s) → InUse f j
+pub begun-use : (f : Floor) (s round : ℕ) (v : Suit) (j : ℕ) → InUse (afterBegin f s round v) j → ¬ (j ≡ rowTaken f s) → InUse f j
 begun-use f s round v j h n =
     let d = departmentAt f s in
     elim (same-or-not (rowDepartment j) d) [
@@ -104,7 +105,7 @@ begun-use f s round v j h n =
       | inr e ↦ subst (λ (x : Share). j < firstRow (rowDepartment j) + x .used) (share-other d (rowDepartment j) f (shareAfter f s round) e) h
     ]
 
-pub use-begun : (f : Floor) (s round v j : ℕ) → InUse f j → InUse (afterBegin f s round v) j
+pub use-begun : (f : Floor) (s round : ℕ) (v : Suit) (j : ℕ) → InUse f j → InUse (afterBegin f s round v) j
 use-begun f s round v j h =
     let d = departmentAt f s in
     elim (same-or-not (rowDepartment j) d) [
@@ -114,13 +115,13 @@ use-begun f s round v j h =
       | inr e ↦ subst (λ (x : Share). j < firstRow (rowDepartment j) + x .used) (sym (share-other d (rowDepartment j) f (shareAfter f s round) e)) h
     ]
 
-pub taken-use : (f : Floor) (s round v : ℕ) → rowTaken f s < 128 → InUse (afterBegin f s round v) (rowTaken f s)
+pub taken-use : (f : Floor) (s round : ℕ) (v : Suit) → rowTaken f s < 128 → InUse (afterBegin f s round v) (rowTaken f s)
 taken-use f s round v h =
     let d = departmentAt f s in
     of-use (afterBegin f s round v) d (rowTaken f s) (next-own f d h)
     (subst (λ (x : Share). rowTaken f s < firstRow d + x .used) (sym (share-own d f (shareAfter f s round))) (next-in f d h))
 
-begun-sound : (f : Floor) (s round v : ℕ) → s < f .m → Sound f → Sound (afterBegin f s round v)
+begun-sound : (f : Floor) (s round : ℕ) (v : Suit) → s < f .m → Sound f → Sound (afterBegin f s round v)
 unfolding newRow
 begun-sound f s round v hs z = record {
   box-least = z .box-least;
@@ -199,11 +200,11 @@ heard-lengths : (p : Phase) (w : Row) (b : ℕ) → RowLengths w → RowLengths 
 heard-lengths Read w b y = record { slots = λ q. elim q [ Read ↦ y .slots Read | Write ↦ y .slots Write ]; answers = y .answers }
 heard-lengths Write w b y = record { slots = λ q. elim q [ Read ↦ y .slots Read | Write ↦ y .slots Write ]; answers = y .answers }
 
-issued-lengths : (w : Row) (v n : ℕ) → RowLengths w → RowLengths (rows.issued w v n)
+issued-lengths : (w : Row) (v : Suit) (n : ℕ) → RowLengths w → RowLengths (rows.issued w v n)
 unfolding rows.issued
 issued-lengths w v n y = record { slots = λ q. elim q [ Read ↦ y .slots Read | Write ↦ waiting-length n ]; answers = y .answers }
 
-new-lengths-row : (n s round v : ℕ) → RowLengths (newRow n s round v)
+new-lengths-row : (n s round : ℕ) (v : Suit) → RowLengths (newRow n s round v)
 unfolding newRow
 new-lengths-row n s round v = record { slots = λ q. elim q [ Read ↦ waiting-length n | Write ↦ refl ]; answers = refl }
 

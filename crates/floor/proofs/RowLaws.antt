@@ -4,6 +4,7 @@ use native.Mathlib.Decide.{ℕ-discrete}
 use mathlib.Core.Path.{_≡_, refl, sym, ap, subst, _∙_}
 use mathlib.Core.Logic.{_⊎_, inl, inr}
 use mathlib.Core.Bool.{false}
+use Rattle.suits.specs.declared.Suit.{Suit}
 use Rattle.base.specs.Mask.{countBelow}
 use Rattle.base.proofs.MaskLaws.{count-more}
 use Rattle.register.specs.declared.Department.{Department}
@@ -96,7 +97,7 @@ pub apply-begun-use : (f : Floor) (c : Command) (a : ℕ) → applyOf f c .outco
 apply-begun-use f c = begun-in-use (apply-case f c)
 
 -- only a begin says begun
-begin-said : {f : Floor} {c : Command} {s : Stepped} → StepCase f c s → ((t round v : ℕ) → ¬ (c ≡ Begin t round v)) → isBegun (s .outcome) ≡ false
+begin-said : {f : Floor} {c : Command} {s : Stepped} → StepCase f c s → ((t round : ℕ) (v : Suit) → ¬ (c ≡ Begin t round v)) → isBegun (s .outcome) ≡ false
 begin-said (turned k t) n = refl
 begin-said (began z d) n = absurd (n _ _ _ refl)
 begin-said (served z d) n = refl
@@ -108,7 +109,7 @@ begin-said (stopped z d) n = refl
 begin-said (left z d) n = refl
 begin-said (returned z d) n = refl
 
-pub apply-not-begun : (f : Floor) (c : Command) → ((t round v : ℕ) → ¬ (c ≡ Begin t round v)) → (a : ℕ) → ¬ (applyOf f c .outcome ≡ Begun a)
+pub apply-not-begun : (f : Floor) (c : Command) → ((t round : ℕ) (v : Suit) → ¬ (c ≡ Begin t round v)) → (a : ℕ) → ¬ (applyOf f c .outcome ≡ Begun a)
 apply-not-begun f c n a e = clash (ap isBegun e) (begin-said (apply-case f c) n)
 
 -- a row in use after a step was begun by it, or was in use before and is the same attempt's

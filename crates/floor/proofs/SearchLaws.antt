@@ -5,6 +5,7 @@ use native.Mathlib.Numerals.{add-one}
 use mathlib.Core.Path.{_≡_, refl, sym, ap, _∙_}
 use borrow.Author.Tests.{lt-ltb, le-ltb, ltb-true, ltb-false}
 use lib.Dec.{ltb}
+use Rattle.suits.specs.declared.Suit.{Suit}
 use Rattle.base.proofs.Cases.{by-cases}
 use Rattle.base.proofs.Choices.{on-true, on-false}
 use Rattle.commands.specs.declared.Command.{Command}
@@ -48,7 +49,7 @@ module _ (f : Floor) (d : Department) where
   none-taken : (c : Command) (x : Lowest) → x ≡ record { row = 0; rank = 0 } → takenBy f d c ≡ 0 → Looking f d c (firstOf x) x
   none-taken c x e t = known (omega (arith, first-64 x (omega (arith, ap (λ (y : Lowest). y .row) e)))) (ap (λ (y : Lowest). y .row) e ∙ sym t)
 
-  begin-starts : (s round v : ℕ) (x : Lowest) → x ≡ startOf (firstRow d) (usedOf f d) (Begin s round v) → Looking f d (Begin s round v) (firstOf x) x
+  begin-starts : (s round : ℕ) (v : Suit) (x : Lowest) → x ≡ startOf (firstRow d) (usedOf f d) (Begin s round v) → Looking f d (Begin s round v) (firstOf x) x
   unfolding freeBelow
   begin-starts s round v x e =
       by-cases (ltb (usedOf f d) 64)

@@ -5,6 +5,7 @@ use native.Mathlib.Decide.{ℕ-discrete}
 use mathlib.Core.Path.{_≡_, refl, sym, ap, subst, _∙_}
 use mathlib.Core.Bool.{Bool, true, false}
 use lib.ListN.{length}
+use Rattle.suits.specs.declared.Suit.{Suit}
 use Rattle.base.proofs.Cases.{clash}
 use Rattle.base.specs.Mask.{bit}
 use Rattle.requests.specs.Requests.{Standing, notIssued, waiting, onTheWay, received, standing, slotAt, standingOf, isWaiting, isOnTheWay, servedAt, receivedFrom}
@@ -96,7 +97,7 @@ module _ (f : Floor) (z : Sound f) (y : Lengths f) (a : ℕ) (h : a < 128) (b : 
   heard-leads Read Write j o k e w = stands-kept
   heard-leads Write Read j o k e w = stands-kept
 
-  issued-leads : (p : Phase) (j v : ℕ) → c ≡ Deliver Read a j → isOnTheWay (standingOf (rowAt f a .read) j) ≡ true → isReading (ownerAt f a .state) a ≡ true
+  issued-leads : (p : Phase) (j : ℕ) (v : Suit) → c ≡ Deliver Read a j → isOnTheWay (standingOf (rowAt f a .read) j) ≡ true → isReading (ownerAt f a .state) a ≡ true
       → Leads p (WriteIssued v) (issued (rowHeard Read (rowAt f a) j) v (f .n))
   unfolding issued
   issued-leads Read j v e w r = one-heard Read (rowAt f a .read) (WriteIssued v) j refl w e

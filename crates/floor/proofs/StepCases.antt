@@ -7,6 +7,7 @@ use mathlib.Core.Bool.{true, false}
 use mathlib.Core.List.{List}
 use lib.Dec.{eqb}
 use borrow.Author.Tests.{eqb-true, eqb-false}
+use Rattle.suits.specs.declared.Suit.{Suit}
 use Rattle.base.proofs.Choices.{by-test}
 use Rattle.floor.specs.Floors.{rowAt, ownerAt, withRow}
 use Rattle.attempts.specs.Stations.{isReading, isWriting, isIn}
@@ -34,7 +35,7 @@ use Rattle.floor.proofs.RefusalLaws.{begin-means, serve-means, deliver-
 
 pub data StepCase (f : Floor) : Command → Stepped → Type 0 where
   turned : {c : Command} (k : ℕ) → TurnedBack f c k → StepCase f c (refused f k)
-  began : {s round v : ℕ} → Sound f → CanBegin f s round → StepCase f (Begin s round v) (stepped (afterBegin f s round v) (said.Begun (rowTaken f s)))
+  began : {s round : ℕ} {v : Suit} → Sound f → CanBegin f s round → StepCase f (Begin s round v) (stepped (afterBegin f s round v) (said.Begun (rowTaken f s)))
   served : {p : Phase} {a b : ℕ} → Sound f → CanServe f p a b → StepCase f (Serve p a b) (stepped (afterServe f p a b) (said.Served a))
   heard : {p : Phase} {a b : ℕ} → Sound f → CanDeliver f p a b
       → (isIn p (ownerAt f a .state) a ≡ false) ⊎ (atQuorum (requestsHeard p (rowAt f a) b) (f .n) ≡ false)

@@ -5,6 +5,7 @@ use mathlib.Core.Logic.{_⊎_}
 use mathlib.Core.Bool.{Bool, true, false}
 use mathlib.Core.List.{List, _∷_}
 use lib.ListN.{length}
+use Rattle.suits.specs.declared.Suit.{Suit}
 use Rattle.base.specs.Records.{recordsIn}
 use Rattle.base.specs.Mask.{countBelow}
 use Rattle.register.specs.Register.{boxWith}
@@ -112,7 +113,7 @@ module _ (f : Floor) (c : Command) (g : Floor) where
   pub record BegunBy (a : ℕ) : Type 0 where
     pub station : ℕ
     pub round : ℕ
-    pub offer : ℕ
+    pub offer : Suit
     pub command : c ≡ Begin station round offer
     pub may : CanBegin f station round
     pub next : a ≡ rowTaken f station
@@ -135,7 +136,7 @@ module _ (f : Floor) (c : Command) (g : Floor) where
     pub may : CanDeliver f phase a box
     pub row : rowAt g a ≡ heardRow f phase a box
 
-  pub record IssuedBy (v : ℕ) : Type 0 where
+  pub record IssuedBy (v : Suit) : Type 0 where
     pub attempt : ℕ
     pub box : ℕ
     pub command : c ≡ Deliver Read attempt box
@@ -155,7 +156,7 @@ module _ (f : Floor) (c : Command) (g : Floor) where
     pub quorum : atQuorum (heardRow f Write a b .write) (f .n) ≡ true
     pub row : rowAt g a ≡ heardRow f Write a b
 
-  pub record DecidedBy (v : ℕ) : Type 0 where
+  pub record DecidedBy (v : Suit) : Type 0 where
     pub attempt : ℕ
     pub box : ℕ
     pub answer : LastAnswer attempt box
@@ -212,11 +213,11 @@ module _ (f : Floor) (c : Command) (j : ℕ) where
   -- the station j after the step
   pub data StationMove : Outcome → Station → Type 0 where
     station-kept : {o : Outcome} → StationMove o (stationAt f j)
-    station-begins : {round v : ℕ} → c ≡ Begin j round v → isGone (stationAt f j .state) ≡ false → isBusy (stationAt f j .state) ≡ false
+    station-begins : {round : ℕ} {v : Suit} → c ≡ Begin j round v → isGone (stationAt f j .state) ≡ false → isBusy (stationAt f j .state) ≡ false
         → stationAt f j .last < round → StationMove (Begun (rowTaken f j)) (beginner f j round)
-    station-issues : {a b v : ℕ} → c ≡ Deliver Read a b → InUse f a → rowAt f a .station ≡ j → isReading (stationAt f j .state) a ≡ true
+    station-issues : {a b : ℕ} {v : Suit} → c ≡ Deliver Read a b → InUse f a → rowAt f a .station ≡ j → isReading (stationAt f j .state) a ≡ true
         → StationMove (WriteIssued v) (withState (stationAt f j) (state.Writing a))
-    station-decides : {a b v : ℕ} → c ≡ Deliver Write a b → InUse f a → rowAt f a .station ≡ j → isWriting (stationAt f j .state) a ≡ true
+    station-decides : {a b : ℕ} {v : Suit} → c ≡ Deliver Write a b → InUse f a → rowAt f a .station ≡ j → isWriting (stationAt f j .state) a ≡ true
         → rowAt f a .written ≡ v → StationMove (Decided v) (record { department = departmentAt f j; state = state.Decided a; last = stationAt f j .last; decided = Revision v })
     station-aborts : {p : Phase} {a b : ℕ} → c ≡ Deliver p a b → InUse f a → rowAt f a .station ≡ j → isIn p (stationAt f j .state) a ≡ true
         → StationMove (Aborted a) (withState (stationAt f j) state.Idle)
@@ -233,10 +234,10 @@ module _ (f : Floor) (c : Command) (j : ℕ) where
   -- the row j after the step; an answer is received, whatever comes of it
   pub data RowMove : Outcome → Row → Type 0 where
     row-kept : {o : Outcome} → RowMove o (rowAt f j)
-    row-begins : {s round v : ℕ} → c ≡ Begin s round v → s < f .m → j ≡ rowTaken f s → RowMove (Begun (rowTaken f s)) (newRow (f .n) s round v)
+    row-begins : {s round : ℕ} {v : Suit} → c ≡ Begin s round v → s < f .m → j ≡ rowTaken f s → RowMove (Begun (rowTaken f s)) (newRow (f .n) s round v)
     row-served : {p : Phase} {b : ℕ} → c ≡ Serve p j b → CanServe f p j b → RowMove (Served j) (rowServed p (rowAt f j) (servedBy f j b) b)
     row-heard : {p : Phase} {b : ℕ} {o : Outcome} → c ≡ Deliver p j b → CanDeliver f p j b → isRefused o ≡ false → RowMove o (heardRow f p j b)
-    row-issues : {b v : ℕ} → c ≡ Deliver Read j b → CanDeliver f Read j b → isReading (ownerAt f j .state) j ≡ true
+    row-issues : {b : ℕ} {v : Suit} → c ≡ Deliver Read j b → CanDeliver f Read j b → isReading (ownerAt f j .state) j ≡ true
         → atQuorum (heardRow f Read j b .read) (f .n) ≡ true → allYes (heardRow f Read j b .read) (f .n) ≡ true → v ≡ revisionOf (heardRow f Read j b) (f .n)
         → RowMove (WriteIssued v) (rows.issued (heardRow f Read j b) v (f .n))
 
@@ -248,7 +249,7 @@ module _ (f : Floor) (c : Command) (a : ℕ) (p : Phase) (b : ℕ) where
     stands-new : {k : ℕ} {s t : Standing} → k ≡ a → StandingMove (Begun k) s t
     stands-served : c ≡ Serve p a b → StandingMove (Served a) waiting onTheWay
     stands-received : {o : Outcome} → c ≡ Deliver p a b → isRefused o ≡ false → StandingMove o onTheWay received
-    stands-issued : {j v : ℕ} {s : Standing} → p ≡ Write → c ≡ Deliver Read a j → isReading (ownerAt f a .state) a ≡ true → StandingMove (WriteIssued v) s waiting
+    stands-issued : {j : ℕ} {v : Suit} {s : Standing} → p ≡ Write → c ≡ Deliver Read a j → isReading (ownerAt f a .state) a ≡ true → StandingMove (WriteIssued v) s waiting
 
 -- What a register x of the department d may have become: where a rank or a value is new, it is that of a row that the department uses.
 pub record Grown (f : Floor) (d : Department) (x y : Register) : Type 0 where
@@ -271,14 +272,14 @@ pub record DecidesNow (f : Floor) (c : Command) (j : ℕ) (o : Outcome) (x : Dec
   pub command : c ≡ Deliver Write attempt box
   pub used : InUse f attempt
   pub owner : rowAt f attempt .station ≡ j
-  pub revision : ℕ
+  pub revision : Suit
   pub decision : x ≡ Revision revision
   pub written : rowAt f attempt .written ≡ revision
   pub outcome : o ≡ Decided revision
 
 -- the step that sets its last round: its begin
 pub record BeginsNow (f : Floor) (c : Command) (j : ℕ) (o : Outcome) (round : ℕ) : Type 0 where
-  pub offer : ℕ
+  pub offer : Suit
   pub command : c ≡ Begin j round offer
   pub above : stationAt f j .last < round
   pub outcome : o ≡ Begun (rowTaken f j)
@@ -287,7 +288,7 @@ pub record BeginsNow (f : Floor) (c : Command) (j : ℕ) (o : Outcome) (round : 
 pub record RaisesNow (f : Floor) (d : Department) (c : Command) (o : Outcome) (x : Share) : Type 0 where
   pub station : ℕ
   pub round : ℕ
-  pub offer : ℕ
+  pub offer : Suit
   pub command : c ≡ Begin station round offer
   pub outcome : o ≡ Begun (rowTaken f station)
   pub of : departmentAt f station ≡ d

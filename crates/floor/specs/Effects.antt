@@ -1,6 +1,7 @@
 -- Document 01, "Steps", and wishes 2, 5, 6, 7 and 8 of document 02: the floor that an accepted step leads to, and what came of it.
 use Prim.Native.Nat.{ℕ, max}
 use mathlib.Core.Bool.{Bool, true, false}
+use Rattle.suits.specs.declared.Suit.{Suit}
 use Rattle.base.specs.Choice.{if_then_else_}
 use Rattle.base.specs.Numbers.{rankOf}
 use Rattle.register.specs.declared.Register.{Register}
@@ -45,7 +46,7 @@ highestAfter f station round = max (highestOf f (departmentAt f station)) (rankO
 abbrev pub shareAfter : (f : Floor) (station round : ℕ) → Share
 shareAfter f station round = record { used = usedAfter (usedOf f (departmentAt f station)); highest = highestAfter f station round }
 
-abbrev pub afterBegin : (f : Floor) (station round revision : ℕ) → Floor
+abbrev pub afterBegin : (f : Floor) (station round : ℕ) (revision : Suit) → Floor
 afterBegin f station round revision =
     withShare (departmentAt f station)
     (withStation (withRow f (rowTaken f station) (newRow (f .n) station round revision)) station (beginner f station round))
@@ -70,7 +71,7 @@ abbrev pub receivedOn : (f : Floor) (phase : Phase) (a b : ℕ) → Stepped
 receivedOn f phase a b = stepped (withRow f a (heardRow f phase a b)) (said.Received a)
 
 -- "The write carries the attempt's own rank, waits at every box, and the station is writing": the attempt a, with the row w
-abbrev pub afterIssue : (f : Floor) (a : ℕ) (w : Row) (revision : ℕ) → Floor
+abbrev pub afterIssue : (f : Floor) (a : ℕ) (w : Row) (revision : Suit) → Floor
 afterIssue f a w revision =
     withStation (withRow f a (issued w revision (f .n))) (w .station) (withState (stationAt f (w .station)) (state.Writing a))
 
@@ -142,7 +143,7 @@ effectOn f Malformed = stepped f (said.Refused 7)
 -- the revision; stopped with the box; gone with the station". Wish 8: "Kind 8 says stopped and kind 9 back, with the box."
 abbrev pub heardValue : (f : Floor) (phase : Phase) (a b : ℕ) (v : Verdict) → ℕ
 heardValue f phase a b Open = a
-heardValue f phase a b Yes = ofPhase phase (revisionOf (heardRow f phase a b) (f .n)) (heardRow f phase a b .written)
+heardValue f phase a b Yes = ofPhase phase (revisionOf (heardRow f phase a b) (f .n) .r0) (heardRow f phase a b .written .r0)
 heardValue f phase a b No = a
 
 unfoldable pub deliveredValue : (f : Floor) (phase : Phase) (a b : ℕ) → ℕ

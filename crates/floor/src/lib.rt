@@ -126,10 +126,11 @@ fn empty(n: u8, m: u8, departments: &[u8]) -> Floor
     requires { ⌜ length (now departments) ≤ 16 ⌝ }
     ensures { λ r. ⌜ r ≡ emptyFloor n m (now (departments .entry)) ⌝ }
 {
+    let value = suits::none();
     let register = Register {
         read: 0,
         write: 0,
-        value: 0,
+        value,
     };
     let storage = StorageBox {
         sails: register,

@@ -7,6 +7,7 @@ use mathlib.Core.Bool.{Bool, true, false}
 use mathlib.Core.List.{List}
 use lib.ListN.{getD, set}
 use lib.Seq.{getD-set-other}
+use Rattle.suits.specs.declared.Suit.{Suit}
 use borrow.Author.Tests.{eq-eqb}
 use Rattle.base.proofs.Cases.{clash, by-cases}
 use Rattle.base.proofs.Choices.{on-true, on-false, by-test}
@@ -60,7 +61,7 @@ use Rattle.machine.proofs.Asks.{edit-set, edit-map, served-asks, heard-asks, fr
 use Rattle.panel.specs.Panel.{Simulates, within, answersTo, labelOf, figure1, boxOf, foundIn, rowOf, seatIn, stationFor, panel}
 
 -- a floor's step in a department, from f to g
-abbrev pub StepIn : Department → Floor → Floor → Label ℕ ℕ → Type 0
+abbrev pub StepIn : Department → Floor → Floor → Label Suit Suit → Type 0
 StepIn d f g t = Step (f .n) (figure1 .Makes) (panel d f) (panel d g) t
 
 -- a station of the department as the machine sees it
@@ -70,7 +71,7 @@ seen-own d x e = sym (on-true _ (same-is d (x .department) (sym e)) refl)
 
 module _ (d : Department) (f : Floor) (y : Lengths f) where
   -- a row in use is stored
-  row-moved : Sound f → (a : ℕ) → rowDepartment a ≡ d → InUse f a → (w : concrete.Row) (C : Row ℕ ℕ → Row ℕ ℕ → Type 0) → C (rowOf (rowAt f a)) (rowOf w)
+  row-moved : Sound f → (a : ℕ) → rowDepartment a ≡ d → InUse f a → (w : concrete.Row) (C : Row Suit Suit → Row Suit Suit → Type 0) → C (rowOf (rowAt f a)) (rowOf w)
       → (bs : List StorageBox) (ss : List seated.Station)
       → RowMoved (panel d f) (panel d (record { n = f .n; m = f .m; shares = f .shares; boxes = bs; stations = ss; rows = set (f .rows) a w })) a C
   row-moved z a e h w C k bs ss = record {
@@ -82,7 +83,7 @@ module _ (d : Department) (f : Floor) (y : Lengths f) where
   }
 
   -- a box is stored, as the machine sees it
-  box-edit : (b : ℕ) (x : StorageBox) → b < 9 → (g : Box ℕ → Box ℕ) → boxOf (registerOf d x) ≡ g (boxOf (registerAt f d b)) → (j : ℕ)
+  box-edit : (b : ℕ) (x : StorageBox) → b < 9 → (g : Box Suit → Box Suit) → boxOf (registerOf d x) ≡ g (boxOf (registerAt f d b)) → (j : ℕ)
       → Edit (λ k. boxOf (registerAt f d k)) (λ k. boxOf (registerOf d (getD (set (f .boxes) b x) k box0))) b g j
   box-edit b x h g e j = elim (edit-set box0 (f .boxes) b x (omega (arith, y .boxes)) j) [
     | there p q ↦ there p (ap (λ (c : StorageBox). boxOf (registerOf d c)) q ∙ e ∙ ap (λ (k : ℕ). g (boxOf (registerAt f d k))) (sym p))
@@ -267,14 +268,14 @@ module _ {f : Floor} (a b : ℕ) (o : Owned f) (y : Lengths f) (z : Sound f) whe
     abbrev w : concrete.Row
     w = heardRow f Read a b
 
-    abbrev value : ℕ
+    abbrev value : Suit
     value = revisionOf w (f .n)
 
     abbrev issuedRow : concrete.Row
     issuedRow = rows.issued w value (f .n)
 
     record Chooses : Type 0 where
-      found : Found ℕ
+      found : Found Suit
       highest : Highest (f .n) (rowOf issuedRow) found
       makes : figure1 .Makes (w .offer) (found .rank) (found .value) value
 
@@ -309,7 +310,7 @@ inactive (state.Writing x) a e = (λ q. let k : _≡_ {A = ℕ} 0 1 = cc in omeg
 inactive (state.Decided x) a e = (λ q. let k : _≡_ {A = ℕ} 0 1 = cc in omega arith, λ q. let k : _≡_ {A = ℕ} 0 1 = cc in omega arith)
 inactive state.Gone a e = (λ q. let k : _≡_ {A = ℕ} 0 1 = cc in omega arith, λ q. let k : _≡_ {A = ℕ} 0 1 = cc in omega arith)
 
-begin-step : {f : Floor} (s round v : ℕ) → Owned f → Lengths f → Sound f → CanBegin f s round → StepIn (departmentAt f s) f (afterBegin f s round v) (machine.began s round v (rowTaken f s))
+begin-step : {f : Floor} (s round : ℕ) (v : Suit) → Owned f → Lengths f → Sound f → CanBegin f s round → StepIn (departmentAt f s) f (afterBegin f s round v) (machine.began s round v (rowTaken f s))
 unfolding newRow
 begin-step {f} s round v o y z d =
     let e = departmentAt f s in
@@ -359,7 +360,7 @@ leave-step {f} s y z d =
     (station-edit e f y s t (omega (arith, d .station, z .station-most)) refl (λ x. record { seat = none; last = x .last })
     (ap (λ (i : ℕ). record { seat = none; last = i }) (ap (λ (x : Station). x .last) (sym (seen-own e (stationAt f s) refl)))))
 
-step-within : {f : Floor} {c : Command} {s : Stepped} (x : StepCase f c s) → Owned f → (d e : Department) (t : Label ℕ ℕ) → (isOf d e ≡ false → belongs f d c ≡ false)
+step-within : {f : Floor} {c : Command} {s : Stepped} (x : StepCase f c s) → Owned f → (d e : Department) (t : Label Suit Suit) → (isOf d e ≡ false → belongs f d c ≡ false)
     → StepIn e f (s .floor) t → StepIn d f (s .floor) (within d e t)
 step-within x o Sails Sails t b k = k
 step-within x o Canvas Canvas t b k = k

@@ -4,6 +4,8 @@ use mathlib.Core.Path.{_≡_}
 use mathlib.Core.Bool.{Bool}
 use mathlib.Core.List.{List}
 use lib.ListN.{getD}
+use Rattle.suits.specs.Suits.{suit0}
+use Rattle.suits.specs.declared.Suit.{Suit}
 use Rattle.base.specs.Choice.{if_then_else_}
 use Rattle.register.specs.Register.{isOf, isHeld, rmwRead, rmwWrite}
 use Rattle.register.specs.declared.Department.{Department}
@@ -35,16 +37,16 @@ use Rattle.machine.specs.Asks.{asks}
 use Rattle.machine.specs.Rules.{Rule, consensus}
 
 -- the rule by which a station makes what it writes: Figure 1
-abbrev pub figure1 : Rule ℕ ℕ
-figure1 = consensus 0
+abbrev pub figure1 : Rule Suit Suit
+figure1 = consensus suit0
 
-abbrev pub boxOf : Register → Box ℕ
+abbrev pub boxOf : Register → Box Suit
 boxOf x = record { readRank = x .read; writeRank = x .write; value = x .value }
 
-abbrev pub foundIn : Answer → Found ℕ
+abbrev pub foundIn : Answer → Found Suit
 foundIn x = record { rank = x .rank; value = x .value }
 
-abbrev pub rowOf : concrete.Row → Row ℕ ℕ
+abbrev pub rowOf : concrete.Row → Row Suit Suit
 rowOf w = record {
   station = w .station;
   rank = w .rank;
@@ -66,7 +68,7 @@ seatIn Gone = none
 unfoldable pub stationFor : Department → seated.Station → Station
 stationFor d x = if isOf d (x .department) then record { seat = seatIn (x .state); last = x .last } else record { seat = none; last = 0 }
 
-abbrev pub panel : Department → Floor → Machine ℕ ℕ
+abbrev pub panel : Department → Floor → Machine Suit Suit
 panel d f = record {
   box = λ b. boxOf (registerAt f d b);
   Used = λ a. (rowDepartment a ≡ d) × InUse f a;
@@ -75,7 +77,7 @@ panel d f = record {
 }
 
 -- What a step says in the department d: nothing where it is of the other.
-abbrev pub within : (d e : Department) → Label ℕ ℕ → Label ℕ ℕ
+abbrev pub within : (d e : Department) → Label Suit Suit → Label Suit Suit
 within Sails Sails x = x
 within Sails Canvas x = machine.quiet
 within Canvas Sails x = machine.quiet
@@ -87,7 +89,7 @@ answersTo f Read a b = isHeld (rmwRead (servedBy f a b) (rowAt f a .rank) .answe
 answersTo f Write a b = rmwWrite (servedBy f a b) (rowAt f a .rank) (rowAt f a .written) .taken
 
 -- the step with the command c on the floor f said the outcome
-abbrev pub labelOf : (d : Department) (f : Floor) (c : Command) → Outcome → Label ℕ ℕ
+abbrev pub labelOf : (d : Department) (f : Floor) (c : Command) → Outcome → Label Suit Suit
 labelOf d f c (said.Begun a) = elim c [ Begin s round v ↦ within d (departmentAt f s) (machine.began s round v a) | Serve p i b ↦ machine.quiet | Deliver p i b ↦ machine.quiet | Stop b ↦ machine.quiet | Leave s ↦ machine.quiet | Return b ↦ machine.quiet | Malformed ↦ machine.quiet ]
 labelOf d f c (said.Served a) = elim c [ Begin s round v ↦ machine.quiet | Serve p i b ↦ within d (rowDepartment i) (machine.served p i b (answersTo f p i b)) | Deliver p i b ↦ machine.quiet | Stop b ↦ machine.quiet | Leave s ↦ machine.quiet | Return b ↦ machine.quiet | Malformed ↦ machine.quiet ]
 labelOf d f c (said.Received a) = elim c [ Begin s round v ↦ machine.quiet | Serve p i b ↦ machine.quiet | Deliver p i b ↦ within d (rowDepartment i) (machine.heard p i b) | Stop b ↦ machine.quiet | Leave s ↦ machine.quiet | Return b ↦ machine.quiet | Malformed ↦ machine.quiet ]

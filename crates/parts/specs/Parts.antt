@@ -6,6 +6,7 @@ use mathlib.Core.Bool.{Bool, true, false}
 use lib.Dec.{eqb, leb, ltb}
 use Rattle.base.specs.Choice.{if_then_else_}
 use Rattle.base.specs.Numbers.{rankOf}
+use Rattle.suits.specs.declared.Suit.{Suit}
 use Rattle.register.specs.declared.Department.{Department}
 use Rattle.register.specs.declared.Register.{Register}
 use Rattle.requests.specs.Requests.{ofPhase, standingOf, isWaiting, isOnTheWay, verdictOf}
@@ -139,7 +140,7 @@ withParts x row register away station =
     }
 
 -- What an accepted step does to the parts, and what it says.
-unfoldable pub begun : (x : Parts) (s round v : ℕ) → Changed
+unfoldable pub begun : (x : Parts) (s round : ℕ) (v : Suit) → Changed
 begun x s round v =
     record {
       parts = record {
@@ -168,7 +169,7 @@ served x p a b =
 abbrev pub receivedOnly : (x : Parts) (a : ℕ) (w : Row) → Changed
 receivedOnly x a w = record { parts = withParts x w (x .register) (x .away) (x .station); outcome = said.Received a }
 
-abbrev pub writeIssued : (x : Parts) (a : ℕ) (w : Row) (v : ℕ) → Changed
+abbrev pub writeIssued : (x : Parts) (a : ℕ) (w : Row) (v : Suit) → Changed
 writeIssued x a w v =
     record {
       parts = withParts x (issued w v (x .n)) (x .register) (x .away) (withState (x .station) (state.Writing a));

@@ -7,6 +7,7 @@ use crate::Parts;
 use attempts::State;
 use attempts::Station;
 use commands::Outcome;
+use suits::Suit;
 
 pub(crate) fn begin_refusal(x: Parts, s: u8, round: u16) -> u8
     ensures { λ r. ⌜ r ≡ beginIn x s round ⌝ }
@@ -45,7 +46,7 @@ fn larger(x: u32, y: u32) -> u32
     x
 }
 
-pub(crate) fn begin(x: Parts, s: u8, round: u16, v: u32) -> Changed
+pub(crate) fn begin(x: Parts, s: u8, round: u16, v: Suit) -> Changed
     ensures { λ r. ⌜ r ≡ begun x s round v ⌝ }
 {
     let a = x.next;

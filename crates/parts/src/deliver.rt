@@ -57,16 +57,17 @@ fn decided(x: Parts, a: u8, w: Row) -> Changed
     let mut y = x;
     y.row = w;
     let department = st.department;
+    let v = w.written;
     let station = Station {
         department,
         state: State::Decided(a),
         last: st.last,
-        decided: Decision::Revision(w.written),
+        decided: Decision::Revision(v),
     };
     y.station = station;
     Changed {
         parts: y,
-        outcome: Outcome::Decided(w.written),
+        outcome: Outcome::Decided(v),
     }
 }
 

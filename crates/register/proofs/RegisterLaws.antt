@@ -8,6 +8,7 @@ use lib.Dec.{leb, ltb}
 use borrow.Author.Tests.{leb-true, leb-false, ltb-true, ltb-false, le-leb, le-ltb, lt-ltb}
 use Rattle.base.proofs.Cases.{clash, by-cases}
 use Rattle.base.proofs.Choices.{on-true, on-false, by-test, both-true, both-false}
+use Rattle.suits.specs.declared.Suit.{Suit}
 use Rattle.register.specs.Register.{outranks, isHeld, rmwRead, takes, rmwWrite}
 use Rattle.register.specs.declared.Register.{Register}
 use Rattle.register.specs.declared.ReadAnswer.the-variants.{Held, Outranked}
@@ -70,7 +71,7 @@ module _ (x : Register) (r : ℕ) where
       by-test (λ (t : Bool). t ≡ false → (r < x .read) ⊎ (r ≤ x .write)) (leb (x .read) r) (ltb (x .write) r) false
       (λ _ q. inr (ltb-false _ _ q)) (λ p _. inl (leb-false _ _ p))
 
-  module _ (v : ℕ) where
+  module _ (v : Suit) where
     -- a write that is taken: what is taken is what is then held
     pub write-taken : takes x r ≡ true → rmwWrite x r v ≡ record { register = record { read = x .read; write = r; value = v }; taken = true }
     unfolding rmwWrite

@@ -3,6 +3,7 @@ use Prim.Native.Nat.{ℕ, _≤_, _<_}
 use mathlib.Core.Path.{_≡_}
 use mathlib.Core.Logic.{_⊎_}
 use mathlib.Core.Bool.{true, false}
+use Rattle.suits.specs.declared.Suit.{Suit}
 use Rattle.register.specs.Register.{outranks, rmwRead, takes, rmwWrite}
 use Rattle.register.specs.declared.Register.{Register}
 use Rattle.register.specs.declared.ReadAnswer.the-variants.{Held, Outranked}
@@ -24,7 +25,7 @@ pub record RegisterClaims : Type 0 where
   pub takes-both : (x : Register) (r : ℕ) → x .read ≤ r → x .write < r → takes x r ≡ true
   pub takes-not : (x : Register) (r : ℕ) → takes x r ≡ false → (r < x .read) ⊎ (r ≤ x .write)
   -- what is taken is what is then held; what is not taken changes nothing; a write never changes the read rank
-  pub write-taken : (x : Register) (r v : ℕ) → takes x r ≡ true → rmwWrite x r v ≡ record { register = record { read = x .read; write = r; value = v }; taken = true }
-  pub write-refused : (x : Register) (r v : ℕ) → takes x r ≡ false → rmwWrite x r v ≡ record { register = x; taken = false }
-  pub write-answers : (x : Register) (r v : ℕ) → rmwWrite x r v .taken ≡ takes x r
-  pub write-keeps-read : (x : Register) (r v : ℕ) → rmwWrite x r v .register .read ≡ x .read
+  pub write-taken : (x : Register) (r : ℕ) (v : Suit) → takes x r ≡ true → rmwWrite x r v ≡ record { register = record { read = x .read; write = r; value = v }; taken = true }
+  pub write-refused : (x : Register) (r : ℕ) (v : Suit) → takes x r ≡ false → rmwWrite x r v ≡ record { register = x; taken = false }
+  pub write-answers : (x : Register) (r : ℕ) (v : Suit) → rmwWrite x r v .taken ≡ takes x r
+  pub write-keeps-read : (x : Register) (r : ℕ) (v : Suit) → rmwWrite x r v .register .read ≡ x .read

@@ -4,6 +4,8 @@ use Prim.Native.Nat.{ℕ, max}
 use mathlib.Core.Bool.{Bool, true, false}
 use lib.Dec.{eqb, leb, ltb}
 use Rattle.base.specs.Choice.{if_then_else_}
+use Rattle.suits.specs.Suits.{suit0}
+use Rattle.suits.specs.declared.Suit.{Suit}
 use Rattle.register.specs.declared.Department.{Department}
 use Rattle.register.specs.declared.Department.the-variants.{Sails, Canvas}
 use Rattle.register.specs.declared.Register.{Register}
@@ -29,7 +31,7 @@ isOf Canvas Canvas = true
 -- "Each box keeps one record a department"; wish 8: whether it is away. It is also what a read past the end of an array gives by the
 -- language's own rule.
 abbrev pub register0 : Register
-register0 = record { read = 0; write = 0; value = 0 }
+register0 = record { read = 0; write = 0; value = suit0 }
 
 abbrev pub box0 : StorageBox
 box0 = record { sails = register0; canvas = register0; away = false }
@@ -68,9 +70,9 @@ abbrev pub rankIn : (answer : ReadAnswer) → ℕ
 rankIn (Held w v) = w
 rankIn Outranked = 0
 
-abbrev pub valueIn : (answer : ReadAnswer) → ℕ
+abbrev pub valueIn : (answer : ReadAnswer) → Suit
 valueIn (Held w v) = v
-valueIn Outranked = 0
+valueIn Outranked = suit0
 
 -- "if read rank ≤ r and write rank < r"
 unfoldable pub takes : (x : Register) (rank : ℕ) → Bool
@@ -78,7 +80,7 @@ takes x rank = if leb (x .read) rank then ltb (x .write) rank else false
 
 -- "Write with rank r, revision v: if read rank ≤ r and write rank < r, the write rank becomes r, the value v, and the answer is
 -- "taken". Otherwise nothing changes and the answer is "not taken". A write never changes the read rank." (rmw-write)
-unfoldable pub rmwWrite : (x : Register) (rank revision : ℕ) → WriteDone
+unfoldable pub rmwWrite : (x : Register) (rank : ℕ) (revision : Suit) → WriteDone
 rmwWrite x rank revision =
     if takes x rank then record { register = record { read = x .read; write = rank; value = revision }; taken = true }
     else record { register = x; taken = false }

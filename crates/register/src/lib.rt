@@ -2,6 +2,7 @@
 // read it.
 ghost use mathlib.Core.Path.{_≡_};
 ghost use Rattle.register.specs.Register.{registerOf, boxWith, outranks, isHeld, rankIn, valueIn, takes, rmwRead, rmwWrite};
+use suits::Suit;
 
 // A department of the loft (wish 6 of document 02): each has a record of its own in every box.
 pub enum Department {
@@ -13,7 +14,7 @@ pub enum Department {
 pub struct Register {
     pub read: u32,
     pub write: u32,
-    pub value: u32,
+    pub value: Suit,
 }
 
 // A box: a ranked register for each department, and whether it is away (wish 8 of document 02), which both share.
@@ -25,7 +26,7 @@ pub struct StorageBox {
 
 // What a read answers: the write rank and the value that are held, or that a higher rank was served (the nack of a phase 1).
 pub enum ReadAnswer {
-    Held(u32, u32),
+    Held(u32, Suit),
     Outranked,
 }
 
@@ -84,14 +85,15 @@ pub fn rmw_read(x: Register, rank: u32) -> ReadDone
     ensures { λ y. ⌜ y ≡ rmwRead x rank ⌝ }
 {
     if !outranked(x, rank) {
+        let value = x.value;
         let register = Register {
             read: rank,
             write: x.write,
-            value: x.value,
+            value,
         };
         return ReadDone {
             register,
-            answer: ReadAnswer::Held(x.write, x.value),
+            answer: ReadAnswer::Held(x.write, value),
         };
     }
     let register = x;
@@ -121,12 +123,12 @@ pub fn rank_in(a: ReadAnswer) -> u32
     }
 }
 
-pub fn value_in(a: ReadAnswer) -> u32
+pub fn value_in(a: ReadAnswer) -> Suit
     ensures { λ y. ⌜ y ≡ valueIn a ⌝ }
 {
     match a {
         ReadAnswer::Held(_, v) => v,
-        ReadAnswer::Outranked => 0,
+        ReadAnswer::Outranked => suits::none(),
     }
 }
 
@@ -141,7 +143,7 @@ fn taken_at(x: Register, rank: u32) -> bool
 }
 
 // Figure 3's rmw-write: a write that is taken sets the write rank and the value, any other changes nothing.
-pub fn rmw_write(x: Register, rank: u32, revision: u32) -> WriteDone
+pub fn rmw_write(x: Register, rank: u32, revision: Suit) -> WriteDone
     ensures { λ y. ⌜ y ≡ rmwWrite x rank revision ⌝ }
 {
     if !taken_at(x, rank) {

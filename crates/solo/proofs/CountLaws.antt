@@ -3,6 +3,7 @@ use Prim.Native.Nat.{ℕ, _≤_}
 use native.Mathlib.Omega.{arith}
 use mathlib.Core.Path.{_≡_, refl}
 use mathlib.Core.List.{List, _∷_}
+use Rattle.suits.specs.declared.Suit.{Suit}
 use Rattle.base.proofs.Cases.{clash}
 use Rattle.base.proofs.Choices.{by-test}
 use Rattle.floor.specs.Runs.{floorAt, runOf}
@@ -26,10 +27,10 @@ unfolding floorAt
 back-counted f rs k = record { within = omega arith; reached = refl; accepted = λ i h. absurd (omega arith); last = λ e. clash refl e }
 
 -- for every floor and whatever was asked, refused solo finishes too
-pub solo-counted : (f : Floor) (s v : ℕ) → Counted f (planOf f s v) (soloOf f s v)
+pub solo-counted : (f : Floor) (s : ℕ) (v : Suit) → Counted f (planOf f s v) (soloOf f s v)
 unfolding soloOf
 solo-counted f s v = by-test (Counted f (planOf f s v)) _ _ _ (λ _. run-counted f _ _) (λ _. back-counted f _ _)
 
 -- the steps of at most 9 boxes' plan fit a byte
-pub run-short : (f : Floor) (s v : ℕ) (x : Ran) → Sound f → x ≡ runOf End f (beginOf f s v) (exchangesOf f s) → x .accepted ≤ 37
+pub run-short : (f : Floor) (s : ℕ) (v : Suit) (x : Ran) → Sound f → x ≡ runOf End f (beginOf f s v) (exchangesOf f s) → x .accepted ≤ 37
 run-short f s v x z e = rw e (omega (arith, run-ran End f (beginOf f s v) (exchangesOf f s) .within, plan-most f s v, z .box-most))

@@ -8,6 +8,7 @@ use mathlib.Core.Bool.{Bool, true, false}
 use mathlib.Core.List.{List, [], _∷_, _++_}
 use lib.ListN.{length, take}
 use lib.Seq.{length-take-le}
+use Rattle.suits.specs.declared.Suit.{Suit}
 use Rattle.base.specs.Choice.{if_then_else_}
 use Rattle.base.specs.Numbers.{quorum, rankOf}
 use Rattle.base.proofs.Cases.{clash}
@@ -63,7 +64,7 @@ take-ascends t (suc q) p [] u = tt
 take-ascends t (suc q) p (b ∷ bs) u = (u .0, u .1, u .2, take-ascends t q (b + 1) bs (u .3))
 
 -- a begin that is accepted, with q boxes that answer: the whole run
-module _ (f : Floor) (s v : ℕ) (highest : Bool) (z : Sound f) (l : Lengths f) (can : CanBegin f s (roundOf f s)) (enough : quorum (f .n) ≤ length (answering f))
+module _ (f : Floor) (s : ℕ) (v : Suit) (highest : Bool) (z : Sound f) (l : Lengths f) (can : CanBegin f s (roundOf f s)) (enough : quorum (f .n) ≤ length (answering f))
     (low : (b : ℕ) → highest ≡ true → (registerAt f (departmentAt f s) b .read ≤ rankOf (roundOf f s) s) × (registerAt f (departmentAt f s) b .write < rankOf (roundOf f s) s)) where
   abbrev round : ℕ
   round = roundOf f s
@@ -109,7 +110,7 @@ module _ (f : Floor) (s v : ℕ) (highest : Bool) (z : Sound f) (l : Lengths f) 
       (take-ascends attempt (quorum (f .n)) 0 (answering f) (answering-ascends attempt (f .n) 0 0 (omega arith) (omega arith))))
 
 -- on a lawful floor the rank of the round picked passes every rank that a box has served, and every round that the station has begun
-module _ (f : Floor) (s v : ℕ) (y : Lawful f) (x : Ready f s) where
+module _ (f : Floor) (s : ℕ) (v : Suit) (y : Lawful f) (x : Ready f s) where
   passes : highestBegun f s < rankOf (roundOf f s) s
   passes = round-passes (highestBegun f s) s
 
@@ -141,7 +142,7 @@ module _ (f : Floor) (s v : ℕ) (y : Lawful f) (x : Ready f s) where
       rw (solo-driven f s v no-refusal) (decides _ refl refl refl refl a)
 
 -- On any floor whose arrays have the lengths of their types: the begin is turned back, or the attempt is driven to its end.
-module _ (f : Floor) (s v : ℕ) (l : Lengths f) where
+module _ (f : Floor) (s : ℕ) (v : Suit) (l : Lengths f) where
   abbrev begin : Command
   begin = Begin s (roundOf f s) v
 

@@ -9,6 +9,7 @@ use mathlib.Core.Bool.{Bool, true, false}
 use mathlib.Core.List.{List}
 use lib.ListN.{length, getD, set}
 use lib.Seq.{getD-set-other}
+use Rattle.suits.specs.declared.Suit.{Suit}
 use Rattle.base.specs.Numbers.{quorum}
 use Rattle.base.specs.Mask.{countBelow}
 use Rattle.register.specs.Register.{registerOf, boxWith, isHeld, rmwRead, rmwWrite, box0}
@@ -161,7 +162,7 @@ read-answers h k (answered _ _) = refl
 box-answers : {t : Attempt} {b : ℕ} {x : StorageBox} (r : ℕ) → r ≡ t .rank → BoxOk t 0 b x → t .highest ≡ true → isHeld (rmwRead (heldBy t x) r .answer) ≡ true
 box-answers {t} {x = x} r e o i = read-answers (rw e (o .read i)) (omega (arith, e, o .write i (omega arith))) (read-case (heldBy t x) r)
 
-box-written : {t : Attempt} {p b : ℕ} {x : StorageBox} (r v : ℕ) → BoxOk t p b x → BoxOk t (b + 1) b (withHeld t x (rmwWrite (heldBy t x) r v .register))
+box-written : {t : Attempt} {p b : ℕ} {x : StorageBox} (r : ℕ) (v : Suit) → BoxOk t p b x → BoxOk t (b + 1) b (withHeld t x (rmwWrite (heldBy t x) r v .register))
 box-written {t} {x = x} r v o = held-ok t x _ (o .away) (λ i. rw (write-keeps-read (heldBy t x) r v) (o .read i)) (λ i u. absurd (omega arith))
 
 box-served : {t : Attempt} {b : ℕ} {x : StorageBox} (p : ℕ) (f : Phase) (w : Row) → w .rank ≡ t .rank → BoxOk t (askedBelow f p) b x
@@ -173,7 +174,7 @@ box-later : {t : Attempt} {p b j : ℕ} {x : StorageBox} (f : Phase) → p ≤ b
 box-later Read l o = o
 box-later Write l o = record { away = o .away; read = o .read; write = λ i u. o .write i (omega arith) }
 
-box-takes : {t : Attempt} {p b : ℕ} {x : StorageBox} (r v : ℕ) → r ≡ t .rank → p ≤ b → BoxOk t p b x → t .highest ≡ true → rmwWrite (heldBy t x) r v .taken ≡ true
+box-takes : {t : Attempt} {p b : ℕ} {x : StorageBox} (r : ℕ) (v : Suit) → r ≡ t .rank → p ≤ b → BoxOk t p b x → t .highest ≡ true → rmwWrite (heldBy t x) r v .taken ≡ true
 box-takes {t} {x = x} r v e l o i = write-answers (heldBy t x) r v ∙ takes-both (heldBy t x) r (rw e (o .read i)) (rw e (o .write i l))
 
 -- requests of a phase of which box b has served, with a yes where the attempt's rank is the highest
@@ -257,7 +258,7 @@ module _ {t : Attempt} {g : Floor} {b k : ℕ} (f : Phase) (d : Driven t f (b + 
 -- the q-th answer to the read, none of them outranked: the write is issued
 module _ {t : Attempt} {g : Floor} {b k : ℕ} (d : Driven t Read (b + 1) g) (h : b < t .n) (r : RequestsSent t b k (rowAt g (t .number) .read)) (q : k + 1 ≡ quorum (t .n))
     (y : allSaid Read d h r ≡ true) where
-  abbrev pub chosen : ℕ
+  abbrev pub chosen : Suit
   chosen = revisionOf (heardRow g Read (t .number) b) (g .n)
 
   abbrev pub issuedFloor : Floor

@@ -5,6 +5,7 @@ use mathlib.Core.Path.{_≡_, refl, sym, _∙_}
 use mathlib.Core.Bool.{true, false}
 use lib.ListN.{length}
 use borrow.Author.Tests.{leb-false, lt-leb, ltb-false, le-ltb, eq-eqb, ne-eqb}
+use Rattle.suits.specs.declared.Suit.{Suit}
 use Rattle.base.specs.Numbers.{quorum}
 use Rattle.base.proofs.Choices.{on-true, on-false, by-test, passed, choice-ap}
 use Rattle.commands.specs.Outcomes.{numberOf, valueOf}
@@ -53,7 +54,7 @@ module _ (f : Floor) (s round : ℕ) where
       sym (on-false _ (lt-leb _ _ (d .station)) (on-false _ (d .here) (on-false _ (d .free)
       (on-false _ (le-ltb _ _ (d .left)) (on-false _ (lt-leb _ _ (d .row)) (on-false _ (le-ltb _ _ (d .boxes)) refl))))))
 
-module _ (f : Floor) (s v : ℕ) where
+module _ (f : Floor) (s : ℕ) (v : Suit) where
   -- "a refused solo finish takes 0 steps", and leaves the floor
   pub solo-refused : ¬ (soloRefusal f s ≡ 0) → soloOf f s v ≡ turnedAway f (soloRefusal f s)
   unfolding soloOf
@@ -87,12 +88,12 @@ module _ (f : Floor) (s : ℕ) where
   refusal-zero = by-test (λ (k : ℕ). k ≡ 0 → frontRefusal f s (roundOf f s) ≡ 0) (soundOf f) _ _ (λ _ e. e) (λ _ e. absurd (omega (arith, e)))
 
 -- the code's three ends: the floor is not sound; a later refusal applies; none does
-pub ends-unsound : (f : Floor) (s v : ℕ) (r : Solo) → soundOf f ≡ false → r ≡ turnedAway f 6 → r ≡ soloOf f s v
+pub ends-unsound : (f : Floor) (s : ℕ) (v : Suit) (r : Solo) → soundOf f ≡ false → r ≡ turnedAway f 6 → r ≡ soloOf f s v
 ends-unsound f s v r z h =
     let k = refusal-unsound f s z in
     h ∙ rw k at (sym (solo-refused f s v (λ (e : soloRefusal f s ≡ 0). omega (arith, k))))
 
-module _ (f : Floor) (s v round k : ℕ) (r : Solo) (z : soundOf f ≡ true) (picked : round ≡ roundOf f s) (ek : k ≡ frontRefusal f s round) where
+module _ (f : Floor) (s : ℕ) (v : Suit) (round k : ℕ) (r : Solo) (z : soundOf f ≡ true) (picked : round ≡ roundOf f s) (ek : k ≡ frontRefusal f s round) where
   first : k ≡ soloRefusal f s
   first = ek ∙ rw picked (sym (refusal-sound f s z))
 

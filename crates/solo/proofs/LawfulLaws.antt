@@ -5,6 +5,7 @@ use mathlib.Core.Path.{_≡_, refl, ap, subst, _∙_}
 use mathlib.Core.Logic.{inl, inr}
 use mathlib.Core.List.{List, []}
 use lib.ListN.{length, getD}
+use Rattle.suits.specs.declared.Suit.{Suit}
 use Rattle.base.specs.Numbers.{rankOf}
 use Rattle.register.specs.Register.{box0, registerOf}
 use Rattle.register.specs.declared.Department.{Department}
@@ -37,7 +38,7 @@ use Rattle.commands.specs.declared.Command.{Command}
 use Rattle.commands.specs.declared.Command.the-variants.{Begin}
 use Rattle.solo.specs.Claims.{Lawful}
 
-module _ (f : Floor) (s round v : ℕ) where
+module _ (f : Floor) (s round : ℕ) (v : Suit) where
   abbrev begunFloor : Floor
   begunFloor = afterBegin f s round v
 
@@ -56,7 +57,7 @@ module _ (f : Floor) (s round v : ℕ) where
       rw (next-own f (departmentAt f s) h)
       (omega (arith, begun-highest, ap (λ (w : Row). w .rank) (row-stored f y z (rowTaken f s) (newRow (f .n) s round v) h)))
 
-begun-ranked : {f : Floor} {s round v : ℕ} {x : Stepped} → StepCase f (Begin s round v) x → x .outcome ≡ Begun (rowTaken f s) → rankOf round s ≤ highestOf (x .floor) (departmentAt f s)
+begun-ranked : {f : Floor} {s round : ℕ} {v : Suit} {x : Stepped} → StepCase f (Begin s round v) x → x .outcome ≡ Begun (rowTaken f s) → rankOf round s ≤ highestOf (x .floor) (departmentAt f s)
 begun-ranked (turned k t) e = clash refl (ap isRefused e)
 begun-ranked {f} (began {s = s} {round = r} {v = v} z d) e = begun-highest f s r v
 

@@ -6,6 +6,7 @@ use mathlib.Core.Path.{_≡_, refl}
 use mathlib.Core.Bool.{true, false}
 use mathlib.Core.List.{List, [], _∷_, _++_, append-nil}
 use lib.ListN.{length, getD}
+use Rattle.suits.specs.declared.Suit.{Suit}
 use Rattle.base.specs.Choice.{if_then_else_}
 use Rattle.base.specs.Numbers.{quorum}
 use Rattle.base.proofs.Cases.{clash, by-cases, not-true-false}
@@ -36,7 +37,7 @@ use Rattle.solo.proofs.Driven.{Attempt, Driven, RequestsAt, RequestsSen
 -- A run that is over, with its number of steps: the station has decided, as it does where its rank is the highest; or the attempt has
 -- aborted with the q-th write answer, or with the k-th read answer.
 pub data Over (t : Attempt) : Outcome → ℕ → Type 0 where
-  has-decided : (v : ℕ) → Over t (Decided v) (4 * quorum (t .n) + 1)
+  has-decided : (v : Suit) → Over t (Decided v) (4 * quorum (t .n) + 1)
   has-aborted : t .highest ≡ false → Over t (Aborted (t .number)) (4 * quorum (t .n) + 1)
   was-outranked : t .highest ≡ false → (k : ℕ) → 1 ≤ k → k ≤ quorum (t .n) → Over t (Aborted (t .number)) (2 * k + 1)
 

@@ -6,6 +6,7 @@ use mathlib.Core.Path.{_≡_, refl, sym, ap}
 use mathlib.Core.Bool.{true, false}
 use mathlib.Core.List.{List, [], _∷_}
 use lib.ListN.{length, getD, take, length-take, length-append}
+use Rattle.suits.specs.declared.Suit.{Suit}
 use Rattle.base.specs.Numbers.{quorum}
 use Rattle.base.proofs.Choices.{on-true, on-false, by-test}
 use Rattle.register.specs.Register.{box0}
@@ -20,7 +21,7 @@ use Rattle.floor.specs.declared.Floor.{Floor}
 use Rattle.solo.specs.Plan.{roundOf, answeringFrom, lowest, askedOf, exchange, exchanges, beginOf, exchangesOf, planOf}
 
 -- the plan begins with this station and this revision
-pub plan-begins : (f : Floor) (s v : ℕ) → commandOf (beginOf f s v) ≡ Begin s (roundOf f s) v
+pub plan-begins : (f : Floor) (s : ℕ) (v : Suit) → commandOf (beginOf f s v) ≡ Begin s (roundOf f s) v
 plan-begins f s v = decode-encode (Begin s (roundOf f s) v)
 
 -- box b and those after it
@@ -59,7 +60,7 @@ exchanges-most p a q n boxes =
     omega (arith, exchanges-length p a (take q (answeringFrom n 0 boxes)), length-take q (answeringFrom n 0 boxes), answering-most n 0 boxes)
 
 -- the whole plan
-pub plan-most : (f : Floor) (s v : ℕ) → length (planOf f s v) ≤ 4 * f .n + 1
+pub plan-most : (f : Floor) (s : ℕ) (v : Suit) → length (planOf f s v) ≤ 4 * f .n + 1
 unfolding exchangesOf
 plan-most f s v =
     let reads : List (List ℕ) = exchanges Read (rowTaken f s) (askedOf f) in

@@ -8,6 +8,7 @@ use mathlib.Core.Bool.{true, false}
 use mathlib.Core.List.{List, [], _∷_, _++_, flatten, append-assoc, append-nil}
 use lib.ListN.{length, getD, take, set, length-set}
 use lib.Seq.{take-all, take-suc, take-suc-set}
+use Rattle.suits.specs.declared.Suit.{Suit}
 use Rattle.base.specs.Numbers.{quorum}
 use Rattle.base.specs.Records.{recordsIn}
 use Rattle.base.proofs.RecordLaws.{joined-append, joined-length, all-eight, records-again}
@@ -142,7 +143,7 @@ module _ (f : Floor) (s : ℕ) (l l' : List ℕ) (m end a : ℕ) where
   unfolding exchangesOf
   plan-written e r w = w ∙ rw (r, e) (sym (joined-append (exchanges Read (rowTaken f s) (askedOf f)) (exchanges Write (rowTaken f s) (askedOf f))))
 
-module _ (f : Floor) (s v round : ℕ) (r l : List ℕ) (x : Ran) where
+module _ (f : Floor) (s : ℕ) (v : Suit) (round : ℕ) (r l : List ℕ) (x : Ran) where
   pub plan-run : Sound f → round ≡ roundOf f s → r ≡ encodeOf (Begin s round v) → l ≡ flatten (exchangesOf f s)
       → x ≡ drivenIn f r l → x ≡ runOf End f (beginOf f s v) (exchangesOf f s)
   plan-run z hr er el ex =

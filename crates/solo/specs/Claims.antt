@@ -5,6 +5,7 @@ use mathlib.Core.Logic.{_⊎_}
 use mathlib.Core.Bool.{false}
 use mathlib.Core.List.{List}
 use lib.ListN.{length}
+use Rattle.suits.specs.declared.Suit.{Suit}
 use Rattle.base.specs.Numbers.{quorum, rankOf}
 use Rattle.commands.specs.Commands.{commandOf}
 use Rattle.commands.specs.Outcomes.{numberOf, valueOf, isRefused}
@@ -57,7 +58,7 @@ pub record Ready (f : Floor) (s : ℕ) : Type 0 where
 
 -- it says decided, with some revision, after 4q + 1 steps
 pub record DecidesAlone (f : Floor) (d : Solo) : Type 0 where
-  pub revision : ℕ
+  pub revision : Suit
   pub said : d .outcome ≡ Decided revision
   pub steps : d .steps ≡ 4 * quorum (f .n) + 1
 
@@ -66,7 +67,7 @@ pub record DecidesAlone (f : Floor) (d : Solo) : Type 0 where
 -- read answer, after the begin and k exchanges.
 pub data Ends (f : Floor) (s : ℕ) (d : Solo) : Type 0 where
   turned : (k : ℕ) → d ≡ turnedAway f k → Ends f s d
-  decided : (v : ℕ) → d .outcome ≡ Decided v → d .steps ≡ 4 * quorum (f .n) + 1 → Ends f s d
+  decided : (v : Suit) → d .outcome ≡ Decided v → d .steps ≡ 4 * quorum (f .n) + 1 → Ends f s d
   aborted : d .outcome ≡ Aborted (rowTaken f s) → d .steps ≡ 4 * quorum (f .n) + 1 → Ends f s d
   outranked : (k : ℕ) → 1 ≤ k → k ≤ quorum (f .n) → d .outcome ≡ Aborted (rowTaken f s) → d .steps ≡ 2 * k + 1 → Ends f s d
 
@@ -74,15 +75,15 @@ pub data Ends (f : Floor) (s : ℕ) (d : Solo) : Type 0 where
 pub record SoloClaims : Type 0 where
   pub smallest : (f : Floor) (s : ℕ) → Smallest f s (roundOf f s)
   -- "whatever revision it offers": its first step is the begin of this station with this revision
-  pub begins : (f : Floor) (s v : ℕ) → commandOf (beginOf f s v) ≡ Begin s (roundOf f s) v
+  pub begins : (f : Floor) (s : ℕ) (v : Suit) → commandOf (beginOf f s v) ≡ Begin s (roundOf f s) v
   -- document 01's number and value of what it says
-  pub number : (f : Floor) (s v : ℕ) → numberOf (soloOf f s v .outcome) ≡ soloNumber f s v
-  pub value : (f : Floor) (s v : ℕ) → valueOf (soloOf f s v .outcome) ≡ soloValue f s v
+  pub number : (f : Floor) (s : ℕ) (v : Suit) → numberOf (soloOf f s v .outcome) ≡ soloNumber f s v
+  pub value : (f : Floor) (s : ℕ) (v : Suit) → valueOf (soloOf f s v .outcome) ≡ soloValue f s v
   -- refused solo finishes too
-  pub counted : (f : Floor) (s v : ℕ) → Counted f (planOf f s v) (soloOf f s v)
-  pub ends : (f : Floor) (s v : ℕ) → Lengths f → Ends f s (soloOf f s v)
+  pub counted : (f : Floor) (s : ℕ) (v : Suit) → Counted f (planOf f s v) (soloOf f s v)
+  pub ends : (f : Floor) (s : ℕ) (v : Suit) → Lengths f → Ends f s (soloOf f s v)
   -- "an idle station driven alone, whatever revision it offers, decides in exactly 4q + 1 steps", on a lawful floor; every floor that a
   -- list of steps from a new floor reaches is one
-  pub decides : (f : Floor) (s v : ℕ) → Lawful f → Ready f s → DecidesAlone f (soloOf f s v)
+  pub decides : (f : Floor) (s : ℕ) (v : Suit) → Lawful f → Ready f s → DecidesAlone f (soloOf f s v)
   pub new-lawful : (n m : ℕ) (departments : List ℕ) → Lawful (newFloorOf n m departments .floor)
   pub lawful : (f : Floor) (r : List ℕ) → Lawful f → Lawful (stepOf f r .floor)

@@ -2,6 +2,7 @@
 use Prim.Native.Nat.{ℕ, zero, suc, _+_, _-_, _/_}
 use mathlib.Core.List.{List, [], _∷_, _++_}
 use lib.ListN.{getD, take}
+use Rattle.suits.specs.declared.Suit.{Suit}
 use Rattle.base.specs.Choice.{if_then_else_}
 use Rattle.base.specs.Numbers.{quorum}
 use Rattle.register.specs.Register.{box0}
@@ -59,12 +60,12 @@ exchanges phase a (b ∷ bs) = exchange phase a b ++ exchanges phase a bs
 -- "It begins, serves and delivers the read at the q lowest-numbered answering boxes, one box after the other, then the write
 -- likewise": the record of its begin, and those behind it. The attempt is the row that a begin of the station takes on the floor handed in, and the boxes
 -- are those that answer there.
-abbrev pub beginOf : (f : Floor) (station revision : ℕ) → List ℕ
+abbrev pub beginOf : (f : Floor) (station : ℕ) (revision : Suit) → List ℕ
 beginOf f station revision = encodeOf (Begin station (roundOf f station) revision)
 
 unfoldable pub exchangesOf : (f : Floor) (station : ℕ) → List (List ℕ)
 exchangesOf f station = exchanges Read (rowTaken f station) (askedOf f) ++ exchanges Write (rowTaken f station) (askedOf f)
 
 -- the list of its steps
-abbrev pub planOf : (f : Floor) (station revision : ℕ) → List (List ℕ)
+abbrev pub planOf : (f : Floor) (station : ℕ) (revision : Suit) → List (List ℕ)
 planOf f station revision = beginOf f station revision ∷ exchangesOf f station

@@ -2,6 +2,7 @@
 use Prim.Native.Nat.{ℕ}
 use lib.ListN.{length}
 use lib.Dec.{eqb, leb, ltb}
+use Rattle.suits.specs.declared.Suit.{Suit}
 use Rattle.base.specs.Choice.{if_then_else_}
 use Rattle.base.specs.Numbers.{quorum}
 use Rattle.commands.specs.Outcomes.{numberOf, valueOf}
@@ -44,18 +45,18 @@ ofRun x = record { floor = x .floor; steps = x .accepted; outcome = x .outcome }
 
 -- "It returns the floor and the number of steps it took, with what the last step said. On a hand-built floor a step may be turned back,
 -- or the attempt may end otherwise: it stops there and gives that refusal or end."
-unfoldable pub soloOf : (f : Floor) (station revision : ℕ) → Solo
+unfoldable pub soloOf : (f : Floor) (station : ℕ) (revision : Suit) → Solo
 soloOf f station revision =
     if eqb (soloRefusal f station) 0 then ofRun (runOf End f (beginOf f station revision) (exchangesOf f station))
     else turnedAway f (soloRefusal f station)
 
 -- Document 01's number and value of what it says: its own refusal, which has no value, or those of what its last step said.
-unfoldable pub soloNumber : (f : Floor) (station revision : ℕ) → ℕ
+unfoldable pub soloNumber : (f : Floor) (station : ℕ) (revision : Suit) → ℕ
 soloNumber f station revision =
     if eqb (soloRefusal f station) 0 then numberOf (runOf End f (beginOf f station revision) (exchangesOf f station) .outcome)
     else soloRefusal f station
 
-unfoldable pub soloValue : (f : Floor) (station revision : ℕ) → ℕ
+unfoldable pub soloValue : (f : Floor) (station : ℕ) (revision : Suit) → ℕ
 soloValue f station revision =
     if eqb (soloRefusal f station) 0 then valueOf (runOf End f (beginOf f station revision) (exchangesOf f station) .outcome)
     else 0

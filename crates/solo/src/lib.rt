@@ -22,6 +22,7 @@ use floor::Floor;
 use register::Department;
 use register::StorageBox;
 use requests::Phase;
+use suits::Suit;
 
 // A floor, how many steps led to it, and what the last step said, a refused one included.
 pub struct Solo {
@@ -166,7 +167,7 @@ fn put_phase(out: &mut [u8], at: usize, boxes: [StorageBox; 9], n: u8, p: Phase,
 
 // The steps of the plan, up to the first that is turned back or that ends the attempt. Two phases with at most 5 boxes each are 20
 // records of 8 bytes behind the begin.
-fn drive(f: Floor, s: u8, round: u16, v: u32, next: u8) -> Solo
+fn drive(f: Floor, s: u8, round: u16, v: Suit, next: u8) -> Solo
     requires { ⌜ (Sound f) × (round ≡ roundOf f s) × (next ≡ rowTaken f s) ⌝ }
     ensures { λ r. ⌜ r ≡ ofRun (runOf End f (beginOf f s v) (exchangesOf f s)) ⌝ }
 {
@@ -186,7 +187,7 @@ fn drive(f: Floor, s: u8, round: u16, v: u32, next: u8) -> Solo
 }
 
 // For a station and a revision: the floor, how many steps led to it, and what the last step said.
-pub fn solo_finish(f: Floor, s: u8, v: u32) -> Solo
+pub fn solo_finish(f: Floor, s: u8, v: Suit) -> Solo
     ensures finished { λ r. ⌜ r ≡ soloOf f s v ⌝ }
     ensures number { λ r. ⌜ numberOf (r .outcome) ≡ soloNumber f s v ⌝ }
     ensures value { λ r. ⌜ valueOf (r .outcome) ≡ soloValue f s v ⌝ }

@@ -69,10 +69,11 @@ fn row(w: Row, r: [u8; 8]) -> Row {
 
 // A box with the record of one department; that of the other stays.
 fn storage(x: StorageBox, r: [u8; 8]) -> StorageBox {
+    let value = suits::of_one(r[4] as u32);
     let register = Register {
         read: r[2] as u32,
         write: r[3] as u32,
-        value: r[4] as u32,
+        value,
     };
     let mut y = x;
     y.away = r[5] != 0;
@@ -99,7 +100,7 @@ pub(crate) fn decision(revision: u8, told: u8) -> Decision {
     if revision | told == 0 {
         return Decision::None;
     }
-    Decision::Revision(revision as u32)
+    Decision::Revision(suits::of_one(revision as u32))
 }
 
 fn station(r: [u8; 8]) -> Station {

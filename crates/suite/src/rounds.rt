@@ -49,7 +49,7 @@ fn with_rank(kind: u8, used: u8, rank: u32) -> Floor {
 
 // What came of the solo finish of a station; where it began, with its round and its rank.
 fn finish(f: Floor, s: u8) {
-    let d = solo::solo_finish(f, s, 7);
+    let d = solo::solo_finish(f, s, suits::of_one(7));
     let o = d.outcome;
     let g = d.floor;
     text::fill(b" station % ", &[s as u64]);

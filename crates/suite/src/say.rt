@@ -60,7 +60,7 @@ pub(crate) fn of_canvas(department: u8) {
 fn decision(decided: Decision) {
     match decided {
         Decision::None => text::print(b"none"),
-        Decision::Revision(v) => text::fill(b"%", &[v as u64]),
+        Decision::Revision(v) => text::fill(b"%", &[v.r0 as u64]),
     }
 }
 
@@ -145,8 +145,8 @@ pub(crate) fn row(f: Floor, number: u8) {
             number as u64,
             w.station as u64,
             w.rank as u64,
-            w.offer as u64,
-            w.written as u64,
+            w.offer.r0 as u64,
+            w.written.r0 as u64,
             read.heard as u64,
             write.heard as u64,
         ],
@@ -185,8 +185,8 @@ pub(crate) fn outcome(o: Outcome) {
         Outcome::Served(a) => said(1, a as u32),
         Outcome::Received(a) => said(2, a as u32),
         Outcome::Aborted(a) => said(3, a as u32),
-        Outcome::WriteIssued(v) => said(4, v),
-        Outcome::Decided(v) => said(5, v),
+        Outcome::WriteIssued(v) => said(4, v.r0),
+        Outcome::Decided(v) => said(5, v.r0),
         Outcome::Stopped(b) => said(6, b as u32),
         Outcome::Gone(s) => said(7, s as u32),
         Outcome::Back(b) => said(8, b as u32),
@@ -279,12 +279,12 @@ pub(crate) fn canvas_stations(f: Floor) {
 
 // The record of canvas in a box, where it is not all 0.
 fn canvas_record(r: Register) {
-    if r.read | r.write | r.value == 0 {
+    if r.read | r.write | r.value.r0 == 0 {
         return;
     }
     text::fill(
         b"; canvas read rank %, write rank %, value %",
-        &[r.read as u64, r.write as u64, r.value as u64],
+        &[r.read as u64, r.write as u64, r.value.r0 as u64],
     );
 }
 
@@ -294,7 +294,12 @@ fn storage(number: u8, b: StorageBox) {
     let c = b.canvas;
     text::fill(
         b"box % read rank %, write rank %, value %",
-        &[number as u64, r.read as u64, r.write as u64, r.value as u64],
+        &[
+            number as u64,
+            r.read as u64,
+            r.write as u64,
+            r.value.r0 as u64,
+        ],
     );
     canvas_record(c);
     text::pick(b"|, away", b.away as u8, &[]);

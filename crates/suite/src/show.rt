@@ -94,7 +94,7 @@ fn step(f: Floor, r: [u8; 8]) -> Floor {
 // A solo finish, and what came of it.
 fn alone(f: Floor, r: [u8; 8]) -> Floor {
     let revision = text::word(r[4], r[5], r[6], r[7]);
-    let d = solo::solo_finish(f, r[1], revision);
+    let d = solo::solo_finish(f, r[1], suits::of_one(revision));
     let o = d.outcome;
     say::finish(r[1], revision, d.steps);
     say::outcome(o);

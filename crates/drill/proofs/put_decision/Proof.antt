@@ -17,7 +17,7 @@ returns-2 : tie.Need-returns-2
 unfolding ascii
 returns-2 c =
     let called = c .before .before .put-number .ensures in
-    (called .0, rw (c .before .before .before .before .before .before .decided .given .1) (called .1))
+    (called .0, rw (c .before .before .before .before .before .before .before .decided .given .1) (called .1))
 
 pub put-decision-spec : {M : Type 1} → statement M
 put-decision-spec =

@@ -3,6 +3,7 @@ use native.Mathlib.Omega.{arith}
 use Prim.Native.Nat.{ℕ}
 use mathlib.Core.Path.{_≡_, sym, ap, _∙_}
 use mathlib.Core.Bool.{true}
+use Rattle.suits.specs.declared.Suit.{Suit}
 use Rattle.base.proofs.Choices.{chosen}
 use Rattle.base.proofs.Tests.{tests}
 use Rattle.commands.specs.Outcomes.{numberOf, valueOf}
@@ -21,10 +22,10 @@ use Rattle.solo.proofs.solo_finish.Statement.{statement}
 use Rattle.solo.proofs.solo_finish.Tie as tie
 
 -- with the number and the value of what was said
-number : (f : Floor) (s v : ℕ) (x : Solo) → x ≡ soloOf f s v → numberOf (x .outcome) ≡ soloNumber f s v
+number : (f : Floor) (s : ℕ) (v : Suit) (x : Solo) → x ≡ soloOf f s v → numberOf (x .outcome) ≡ soloNumber f s v
 number f s v x e = ap (λ (d : Solo). numberOf (d .outcome)) e ∙ solo-number f s v
 
-value : (f : Floor) (s v : ℕ) (x : Solo) → x ≡ soloOf f s v → valueOf (x .outcome) ≡ soloValue f s v
+value : (f : Floor) (s : ℕ) (v : Suit) (x : Solo) → x ≡ soloOf f s v → valueOf (x .outcome) ≡ soloValue f s v
 value f s v x e = ap (λ (d : Solo). valueOf (d .outcome)) e ∙ solo-value f s v
 
 -- the round and the row are those of the station's department

@@ -2,7 +2,7 @@ use borrow.Author.Needs.{needs}
 use Prim.Native.Nat.{_≤_, _-_}
 use native.Mathlib.Omega.{arith}
 use native.Mathlib.Numerals.{add-one}
-use mathlib.Core.Path.{_≡_, refl}
+use mathlib.Core.Path.{_≡_}
 use Rattle.attempts.specs.Rows.{bestOf}
 use Rattle.attempts.proofs.rows.best_of.Statement.{statement}
 use Rattle.attempts.proofs.rows.best_of.Tie as tie
@@ -20,7 +20,8 @@ best-of-spec =
     (tie.spec
     Inv-loop
     μ-loop
-    (λ c. (search needs, refl))
+    (λ c κs. search needs)
+    (λ c. (search needs, rw (c .none .ensures)))
     (λ c κs. search needs)
     (λ c. omega arith)
     (λ c. omega arith)
@@ -29,4 +30,4 @@ best-of-spec =
     (λ c. omega arith)
     (λ c. omega arith)
     (λ c. (omega arith, rw add-one (cc)))
-    (λ c. let e : c .before .loop .k ≡ c .before .before .args .n = omega arith in cc))
+    (λ c. let e : c .before .loop .k ≡ c .before .before .before .args .n = omega arith in cc))

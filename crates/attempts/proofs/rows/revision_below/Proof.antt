@@ -12,5 +12,5 @@ revision-below-spec =
     tie.close
     (tie.spec
     (λ c κs. search needs)
-    (λ c. rw (← c .before .before .best-of .ensures) (on-true _ (search tests) (refl)))
-    (λ c. rw (← c .before .before .best-of .ensures) (on-false _ (search tests) (refl))))
+    (λ c. rw (← c .before .before .before .best-of .ensures) (on-true _ (search tests) (refl)))
+    (λ c. rw (← c .before .before .before .best-of .ensures) (on-false _ (search tests) (refl))))

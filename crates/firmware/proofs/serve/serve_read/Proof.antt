@@ -1,4 +1,6 @@
 use borrow.Author.Needs.{needs}
+use mathlib.Core.Path.{ap}
+use Rattle.suits.specs.declared.Suit.{Suit}
 use Rattle.base.proofs.Tests.{tests}
 use Rattle.firmware.proofs.ServeLaws.{read-turned, serves-held, serves-outranked}
 use Rattle.firmware.proofs.serve.serve_read.Statement.{statement}
@@ -16,7 +18,7 @@ serve-read-spec =
     (λ c κs. search needs)
     (λ c.
     let done = c .before .before .before .before .before in
-    serves-held _ _ (done .before .before .if1 .left) _ _ (done .before .load .ensures) (done .rmw-read .ensures) (search tests) _ _ (c .before .rank-in .ensures) (c .value-in .ensures))
+    serves-held _ _ (done .before .before .if1 .left) _ _ (done .before .load .ensures) (done .rmw-read .ensures) (search tests) _ _ (c .before .rank-in .ensures) (ap (λ (v : Suit). v .r0) (c .value-in .ensures)))
     (λ c.
     let done = c .before .before .before in
     serves-outranked _ _ (done .before .before .if1 .left) _ _ (done .before .load .ensures) (done .rmw-read .ensures) (search tests)))
