@@ -21,7 +21,7 @@ use Rattle.player.proofs.PlayLaws.{played-refused, player-claims}
 use Rattle.floor.specs.declared.Played.{Played}
 use Rattle.agreement.specs.Words.{Before, DecidesAt, DecidedIn}
 use Rattle.agreement.specs.Demand.{Demand3}
-use Rattle.agreement.specs.Files.{decidedIn, startOf, departmentIn, acceptedIn, PlayedFile}
+use Rattle.agreement.specs.Files.{decidedIn, startOf, departmentIn, acceptedIn, PlayedFile, PlayedFileTheorem}
 use Rattle.base.proofs.Cases.{clash}
 use Rattle.floor.proofs.ListLaws.{left-taken}
 use Rattle.agreement.proofs.Safety.{isNone}
@@ -83,5 +83,5 @@ module _ (s : List ℕ) (e : fileRefusal s ≡ 0) where
             (y .at, omega (arith, size), y .holds);
       }
 
-pub played-file : (s : List ℕ) → PlayedFile s
+pub played-file : PlayedFileTheorem
 played-file s = elim (ℕ-discrete (fileRefusal s) 0) [ yes e ↦ accepted-file s e | no e ↦ refused-file s e ]

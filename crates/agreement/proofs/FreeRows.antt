@@ -54,7 +54,7 @@ use Rattle.agreement.proofs.Reach.{New, size-at, lengths-at}
 use Rattle.agreement.proofs.Positions.{later, now, means-at, row-at, reading-unissued}
 use Rattle.agreement.proofs.Safety.{one-attempt}
 use Rattle.agreement.proofs.Standing.{used-at, not-aborted}
-use Rattle.agreement.proofs.Consequences.{isOver, over-since, gone-since}
+use Rattle.agreement.proofs.Over.{isOver, over-since, gone-since}
 
 -- an answer was given; a request was issued
 abbrev isServed : Standing → Bool
@@ -175,7 +175,7 @@ module _ (f : Floor) (l : List (List ℕ)) (new : New f) (z : Sound f) where
         inr (aborted (now i (record { named = n; phase = p; box = b; asked = c ∙ ap (λ (j : ℕ). Deliver p j b) m; accepted = e ∙ ap said.Aborted m })))
     active-moves (station-leaves c h) e a = inr (gone (now i e))
 
-  active-or-over : (x : Attempt f l) (i : ℕ) → Named f l x i → (isActive (stationAt (at-floor i) (x .station) .state) (x .number) ≡ true) ⊎ OverAt f l x i
+  pub active-or-over : (x : Attempt f l) (i : ℕ) → Named f l x i → (isActive (stationAt (at-floor i) (x .station) .state) (x .number) ≡ true) ⊎ OverAt f l x i
   unfolding floorAt stepOf
   active-or-over x zero n = absurd (omega (arith, n .earlier))
   active-or-over x (suc i) n = elim (named-step x i n) [

@@ -2,33 +2,38 @@
 use Prim.Native.Nat.{ℕ, zero, suc, _≤_, _<_}
 use native.Mathlib.Omega.{arith}
 use native.Mathlib.Nat.{eq-or-lt-of-le}
-use mathlib.Core.Path.{_≡_, sym, ap, subst, _∙_}
+use mathlib.Core.Path.{_≡_, refl, sym, ap, subst, _∙_}
 use mathlib.Core.Logic.{inl, inr}
 use mathlib.Core.Bool.{true}
 use mathlib.Core.List.{List}
 use Rattle.base.proofs.Cases.{clash, up-to}
+use Rattle.requests.specs.Requests.{Standing, isOnTheWay}
 use Rattle.requests.specs.declared.Phase.{Phase}
 use Rattle.commands.specs.Outcomes.{isBegun}
-use Rattle.commands.specs.declared.Command.the-variants.{Begin, Serve, Deliver}
+use Rattle.commands.specs.declared.Command.{Command}
+use Rattle.commands.specs.declared.Command.the-variants.{Serve}
 use Rattle.commands.specs.declared.Outcome.the-variants as said
 use Rattle.floor.specs.Floors.{stationAt, departmentAt, InUse}
 use Rattle.floor.specs.Effects.{rowTaken}
 use Rattle.floor.proofs.UseLaws.{use-of}
 use Rattle.floor.specs.Free.{isFree}
+use Rattle.floor.specs.Refusals.{refusalOn}
 use Rattle.floor.specs.Step.{stepOf}
 use Rattle.floor.specs.Runs.{floorAt, saidAt}
 use Rattle.floor.specs.Claims.{Sound}
 use Rattle.floor.specs.declared.Floor.{Floor}
 use Rattle.floor.proofs.FreeLaws.{next-own, next-free}
 use Rattle.floor.proofs.Keeps.{new-sound}
+use Rattle.floor.proofs.Numbered.{accepted-refusal}
+use Rattle.floor.proofs.RefusalLaws.{deliver-means}
 use Rattle.floor.proofs.StationLaws.{last-from}
 use Rattle.floor.proofs.ListLaws.{sound-at}
-use Rattle.agreement.specs.Words.{commandAt, Attempt, attemptRank, attemptDepartment, Named, ServedAt, ServesAt, DeliversAt, FreedAt}
+use Rattle.agreement.specs.Words.{Before, commandAt, Attempt, attemptRank, attemptDepartment, Named, ServedAt, ServesAt, DeliversAt, FreedAt}
 use Rattle.agreement.specs.Demand.{firstFloor}
 use Rattle.agreement.specs.GivenBack.{Drops, GivenBackTheorem}
-use Rattle.agreement.proofs.Reach.{New, new-floor}
+use Rattle.agreement.proofs.Reach.{New, new-floor, size-at}
 use Rattle.agreement.proofs.Standing.{used-at, highest-at}
-use Rattle.agreement.proofs.FreeRows.{begins, in-use, freed-of, free-at, free-there, own-answer}
+use Rattle.agreement.proofs.FreeRows.{begins, in-use, freed-of, free-at, free-there, own-answer, Stands, none, waits, answered, heard, standsAt, stands}
 
 module _ (f : Floor) (l : List (List ℕ)) (new : New f) (z : Sound f) where
   -- a station's last round is not below that of an attempt that it began
@@ -70,15 +75,6 @@ module _ (f : Floor) (l : List (List ℕ)) (new : New f) (z : Sound f) where
       | inr q ↦ not-named k q (s .named)
     ]
 
-    not-delivered : (p : Phase) (b k : ℕ) → y .at ≤ k → ¬ DeliversAt f l x p b k
-    not-delivered p b k h s = elim (eq-or-lt-of-le h) [
-      | inl q ↦ (
-          let c : Deliver p (x .number) b ≡ Begin (y .station) (y .round) (y .offer) = sym (s .asked) ∙ ap (commandAt l) (sym q) ∙ y .asked in
-          let k : _≡_ {A = ℕ} 0 1 = cc in
-          omega arith)
-      | inr q ↦ not-named k q (s .named)
-    ]
-
     rank-not-served : (b k : ℕ) → y .at ≤ k → ¬ ServedAt f l (attemptDepartment f l x) (attemptRank f l x) b k
     rank-not-served b k h s =
         let e = one-rank (s .attempt) x (s .rank) in
@@ -99,6 +95,22 @@ module _ (f : Floor) (l : List (List ℕ)) (new : New f) (z : Sound f) where
         let v = use-of g own (rowTaken g (y .station)) (next-own g own (b .place)) (subst (InUse g) e u) in
         freed-of f l new z x (y .at) (d .named) (subst (λ (a : ℕ). isFree g a ≡ true) (sym e) (next-free g own v (b .place)))
 
+module _ (f : Floor) (l : List (List ℕ)) (new : New f) (z : Sound f) where
+  -- an answer that is on the way to the row of an attempt was served for it
+  own-delivery : (y : Attempt f l) (p : Phase) (b i : ℕ) → DeliversAt f l y p b i → Before (ServesAt f l y p b) i
+  unfolding stepOf
+  own-delivery y p b i d =
+      let g = floorAt f l i in
+      let e = accepted-refusal g (commandAt l i) (sound-at f l z i) (d .accepted) in
+      let c = deliver-means g p (y .number) b (subst (λ (c : Command). refusalOn g c ≡ 0) (d .asked) e) in
+      go (stands f l new z y p b (omega (arith, c .box, size-at f l i)) i (d .named)) refl (c .arrives)
+    where
+      go : {s : Standing} → Stands f l new z y p b i s → standsAt f l new z y p b i ≡ s → isOnTheWay (standsAt f l new z y p b i) ≡ true → Before (ServesAt f l y p b) i
+      go (none e) q h = clash h (ap isOnTheWay q)
+      go (waits e) q h = clash h (ap isOnTheWay q)
+      go (answered e s) q h = s
+      go (heard e s d) q h = s
+
 pub given-back : GivenBackTheorem
 given-back n m t l = let f = firstFloor n m t in let new = new-floor n m t in let z = new-sound n m t in record {
   free = free-at f l new z;
@@ -106,8 +118,7 @@ given-back n m t l = let f = firstFloor n m t in let new = new-floor n m t in le
   used = used-at f l new;
   highest = highest-at f l new;
   freed = freed f l new z;
-  not-served = not-served f l new z;
-  not-delivered = not-delivered f l new z;
   rank-not-served = rank-not-served f l new z;
+  own-deliveries = own-delivery f l new z;
   own-answers = own-answer f l new z;
 }

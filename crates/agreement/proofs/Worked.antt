@@ -48,6 +48,7 @@ use Rattle.agreement.specs.Worked.{single, one, exampleI, stops, outrank
 use Rattle.agreement.proofs.GivenBack.{given-back}
 use Rattle.agreement.proofs.Demand.{demand3}
 use Rattle.agreement.proofs.Consequences.{consequences}
+use Rattle.agreement.proofs.Reuse.{used-up, alone-reused}
 
 -- boxes 2, 3 and 4, which answer behind `stops`
 abbrev answering : ℕ → Bool
@@ -356,6 +357,8 @@ worked = record {
   outranked-read = outranked-read;
   free = given-back 1 1 (0 ∷ []) single .free 0 5 (in-sails (floorAt one single 5) (computed .freed .0)) (computed .freed .1);
   not-free = λ x. clash (given-back 1 1 (0 ∷ []) single .free-holds 0 4 x .1) (computed .unfreed);
+  used-up = used-up;
+  alone-reused = alone-reused;
   first-decided = computed .first-decided;
   second-decided = computed .second-decided;
   both-held = computed .both-held;

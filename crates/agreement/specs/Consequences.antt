@@ -10,8 +10,10 @@ use Rattle.commands.specs.Outcomes.{isRefused}
 use Rattle.commands.specs.declared.Command.the-variants.{Begin}
 use Rattle.commands.specs.declared.Outcome.the-variants as said
 use Rattle.attempts.specs.declared.Decision.the-variants.{Revision}
-use Rattle.agreement.specs.Words.{commandAt, DecidesAt, shownAt, Answering}
-use Rattle.floor.specs.Floors.{boxAt}
+use Rattle.attempts.specs.declared.State.the-variants.{Idle}
+use Rattle.agreement.specs.Words.{commandAt, DecidesAt, shownAt, Answering, IdleAt}
+use Rattle.agreement.specs.Demand.{firstFloor}
+use Rattle.floor.specs.Floors.{boxAt, stationAt}
 use Rattle.floor.specs.Runs.{floorAt, saidAt}
 use Rattle.floor.specs.declared.Floor.{Floor}
 
@@ -28,3 +30,10 @@ pub record Consequences (f : Floor) (l : List (List ℕ)) : Type 0 where
   -- a box answers in the words of demand 3 exactly where the floor shows that it is not away
   pub not-away : (b i : ℕ) → Answering f l i b → boxAt (floorAt f l i) b .away ≡ false
   pub answers : (b i : ℕ) → boxAt (floorAt f l i) b .away ≡ false → Answering f l i b
+  -- and a station is idle in those words exactly where the floor shows it idle
+  pub idle : (s i : ℕ) → IdleAt f l s i → stationAt (floorAt f l i) s .state ≡ Idle
+  pub idle-holds : (s i : ℕ) → stationAt (floorAt f l i) s .state ≡ Idle → IdleAt f l s i
+
+-- of every list, from a new floor of any n and m
+abbrev pub ConsequencesTheorem : Type 0
+ConsequencesTheorem = (n m : ℕ) (departments : List ℕ) (l : List (List ℕ)) → Consequences (firstFloor n m departments) l

@@ -29,10 +29,14 @@ departmentIn file t = departmentAt (startOf file) t
 abbrev pub acceptedIn : (file : List ℕ) → List (List ℕ)
 acceptedIn file = take (playedOf file .accepted) (recordsOf file)
 
--- of every file, refused ones too. The proof is `played-file` in proofs/Files.
+-- What the floor shows after the file s was played. The proof is `played-file` in proofs/Files.
 pub record PlayedFile (s : List ℕ) : Type 0 where
   -- "any two stations that decided have decided the same revision", where they are of one department
   pub agreement : (t u : ℕ) (v w : Suit) → departmentIn s t ≡ departmentIn s u → decidedIn s t ≡ Revision v → decidedIn s u ≡ Revision w → v ≡ w
   -- "each decided revision was offered by a station": by a begin among the accepted records
   pub validity : (t : ℕ) (v : Suit) → decidedIn s t ≡ Revision v
       → (i : ℕ) × (i < playedOf s .accepted) × OfferedAt (startOf s) (acceptedIn s) (departmentIn s t) v i
+
+-- of every file, refused ones too
+abbrev pub PlayedFileTheorem : Type 0
+PlayedFileTheorem = (s : List ℕ) → PlayedFile s

@@ -43,11 +43,12 @@ pub record GivenBack (f : Floor) (l : List (List ℕ)) : Type 0 where
   pub highest : (d : Department) (i : ℕ) → HighestAt f l d (highestOf (floorAt f l i) d) i
   -- an attempt whose row is taken was over, and its requests were served at every box
   pub freed : (y x : Attempt f l) → Drops f l y x → FreedAt f l x (y .at)
-  -- from then on no request of it is served and no answer of it is delivered; no box serves its rank
-  pub not-served : (y x : Attempt f l) → Drops f l y x → (phase : Phase) (b k : ℕ) → y .at ≤ k → ¬ ServesAt f l x phase b k
-  pub not-delivered : (y x : Attempt f l) → Drops f l y x → (phase : Phase) (b k : ℕ) → y .at ≤ k → ¬ DeliversAt f l x phase b k
+  -- from then on no box serves its rank
   pub rank-not-served : (y x : Attempt f l) → Drops f l y x → (b k : ℕ) → y .at ≤ k → ¬ ServedAt f l (attemptDepartment f l x) (attemptRank f l x) b k
-  -- and no answer of it is counted for the attempt that has the row then
+  -- "drops its answers still on the way": each answer that is delivered was served for the attempt that its number means then, and so since
+  -- the begin of that
+  pub own-deliveries : (y : Attempt f l) (phase : Phase) (b i : ℕ) → DeliversAt f l y phase b i → Before (ServesAt f l y phase b) i
+  -- and no other is counted for it
   pub own-answers : (y : Attempt f l) (i : ℕ) → Named f l y i → (phase : Phase) (b : ℕ) → b < f .n
       → heardFrom (requestsOf phase (rowAt (floorAt f l i) (y .number))) b ≡ true → OwnAnswer f l y phase b i
 

@@ -1,6 +1,6 @@
 -- Document 01's examples I and J, a read that is outranked, a row that is free, two departments, a withdrawal, and boxes that come back, in
 -- the words of demand 3, so that the claim is not about nothing. The proof is `worked` in proofs/Worked.
-use Prim.Native.Nat.{ℕ}
+use Prim.Native.Nat.{ℕ, zero, suc, _<_}
 use mathlib.Core.Path.{_≡_}
 use mathlib.Core.List.{List, [], _∷_}
 use lib.ListN.{length}
@@ -18,7 +18,7 @@ use Rattle.floor.specs.Floors.{registerAt}
 use Rattle.floor.specs.Runs.{floorLeft, saidAt}
 use Rattle.floor.specs.declared.Floor.{Floor}
 use Rattle.solo.specs.Solo.{soloOf}
-use Rattle.agreement.specs.Words.{commandAt, ServedAt, DecidesAt, OutrankedAt, shownAt, Answering, IdleAt, FreeAt}
+use Rattle.agreement.specs.Words.{commandAt, ServedAt, DecidesAt, OutrankedAt, shownAt, Answering, IdleAt, FreeAt, attemptsBefore}
 use Rattle.agreement.specs.Demand.{firstFloor, DrivenAlone}
 use Rattle.agreement.specs.Returns.{AwayFrom}
 
@@ -66,6 +66,15 @@ withdrawn =
 abbrev pub pair : Floor
 pair = firstFloor 1 2 (0 ∷ 0 ∷ [])
 
+-- Wish 5: attempt 0, of rank 16001, has read at the one box, and the other 63 rows are begun behind it by station 0, each outranked at its
+-- read. So all 64 are used, and those of station 0 are free.
+unfoldable pub contest : (k a : ℕ) → List (List ℕ)
+contest zero a = []
+contest (suc k) a = encodeOf (Begin 0 a (suits.single 7)) ∷ encodeOf (Serve Read a 0) ∷ encodeOf (Deliver Read a 0) ∷ contest k (suc a)
+
+abbrev pub crowd : List (List ℕ)
+crowd = encodeOf (Begin 1 1000 (suits.single 9)) ∷ encodeOf (Serve Read 0 0) ∷ contest 63 1
+
 -- Wish 8: box 1 goes away with a read waiting there, which is served when it is back. Behind it, a box that is not away is brought back.
 abbrev pub cameBack : List (List ℕ)
 cameBack =
@@ -104,6 +113,9 @@ pub record Worked : Type 0 where
   -- wish 5: behind its decision the row of attempt 0 is free, and before it is not, though all its requests are served
   pub free : FreeAt one single 0 5
   pub not-free : ¬ FreeAt one single 0 4
+  -- no row is unused behind `crowd`; station 0 is driven alone in one that is given back, whatever revision it offers
+  pub used-up : ¬ (attemptsBefore pair crowd Sails (length crowd) < 64)
+  pub alone-reused : (v : Suit) → Words v → DrivenAlone pair crowd 0 v (soloOf (floorLeft pair crowd) 0 v)
   -- wish 6: each department decides its own revision, and the box holds both
   pub first-decided : saidAt two both 8 ≡ said.Decided (suits.single 7)
   pub second-decided : saidAt two both 9 ≡ said.Decided (suits.single 9)
