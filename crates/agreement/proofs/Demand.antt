@@ -7,7 +7,7 @@ use mathlib.Core.Bool.{false}
 use mathlib.Core.List.{List, [], _++_}
 use lib.ListN.{length, getD, take}
 use lib.Seq.{getD-take, getD-append-add, length-take-le}
-use Rattle.suits.specs.Suits.{Words}
+use Rattle.suits.specs.Suits.{FourBytes}
 use Rattle.suits.specs.declared.Suit.{Suit}
 use Rattle.base.proofs.QuorumLaws.{at-least-map}
 use Rattle.floor.specs.Floors.{rowAt}
@@ -64,7 +64,7 @@ module _ (g : Floor) (y : Lengths g) (l : List (List ℕ)) (s round : ℕ) (v : 
       row-same (floorAt g l (suc i)) (commandAt l (suc i)) (rowTaken g s) (apply-not-begun (floorAt g l (suc i)) (commandAt l (suc i)) (rest i h) (rowTaken g s)) .station
       ∙ own-row i (omega arith)
 
-module _ (f : Floor) (l : List (List ℕ)) (new : New f) (s : ℕ) (v : Suit) (y : Lawful (floorLeft f l)) (x : Ready (floorLeft f l) s) (h : Words v) where
+module _ (f : Floor) (l : List (List ℕ)) (new : New f) (s : ℕ) (v : Suit) (y : Lawful (floorLeft f l)) (x : Ready (floorLeft f l) s) (h : FourBytes v) where
   abbrev g : Floor
   g = floorLeft f l
 

@@ -1,8 +1,7 @@
 -- The run by positions: the attempt that a row in use belongs to, what each thing said means, and where a station that reads or writes is.
-use Prim.Native.Nat.{ℕ, zero, suc, _<_}
+use Prim.Native.Nat.{ℕ, suc, _<_}
 use native.Mathlib.Omega.{arith}
 use mathlib.Core.Path.{_≡_, refl, sym, ap, subst, _∙_}
-use mathlib.Core.Logic.{inl, inr}
 use mathlib.Core.List.{List, []}
 use lib.ListN.{getD}
 use Rattle.suits.specs.Suits.{suit0}
@@ -13,19 +12,17 @@ use Rattle.requests.specs.declared.Phase.{Phase}
 use Rattle.requests.specs.declared.Phase.the-variants.{Write}
 use Rattle.requests.specs.declared.Stage.the-variants.{Unissued}
 use Rattle.floor.specs.Floors.{stationAt, rowAt, departmentAt, InUse}
-use Rattle.attempts.specs.Rows.{newRow, rowDepartment}
+use Rattle.attempts.specs.Rows.{rowDepartment}
 use Rattle.attempts.specs.declared.State.{State}
 use Rattle.attempts.specs.declared.State.the-variants as state
 use Rattle.floor.specs.Step.{stepOf}
-use Rattle.attempts.specs.declared.Row.{Row}
 use Rattle.floor.specs.declared.Floor.{Floor}
 use Rattle.commands.specs.declared.Command.{Command}
 use Rattle.commands.specs.declared.Command.the-variants.{Serve}
 use Rattle.commands.specs.declared.Outcome.{Outcome}
 use Rattle.commands.specs.declared.Outcome.the-variants as said
-use Rattle.base.proofs.Cases.{up-to}
 use Rattle.base.proofs.Choices.{by-test}
-use Rattle.floor.proofs.RowLaws.{apply-in-use, row-same}
+use Rattle.floor.proofs.FreeLaws.{next-own}
 use Rattle.floor.specs.Claims.{Meaning}
 use Rattle.floor.proofs.Outcomes.{step-means}
 use Rattle.agreement.specs.Words.{Before, commandAt, Attempt, attemptRank, Named}
@@ -36,7 +33,7 @@ use Rattle.machine.proofs.Runs.{safety}
 use Rattle.machine.proofs.Consensus.{consensus-fits}
 use Rattle.panel.specs.Panel.{figure1, seatIn}
 use Rattle.panel.proofs.Simulation.{seen-own}
-use Rattle.agreement.proofs.Reach.{New, lengths-at, runIn}
+use Rattle.agreement.proofs.Reach.{New, says-at, within-own, lengths-at, runIn}
 
 -- a rank is served by a serve of its attempt
 pub record Serving (d : Department) (f : Floor) (c : Command) (o : Outcome) (r b : ℕ) : Type 0 where
@@ -56,12 +53,6 @@ pub now : {P : ℕ → Type 0} (i : ℕ) → P i → Before P (suc i)
 now i p = record { at = i; earlier = omega arith; holds = p }
 
 module _ (f : Floor) (l : List (List ℕ)) where
-  named-more : {x : Attempt f l} {i : ℕ} → ¬ (saidAt f l i ≡ said.Begun (x .number)) → Named f l x i → Named f l x (suc i)
-  named-more {x} {i} d n = record {
-    earlier = omega (arith, n .earlier);
-    last = λ k h u e. elim (up-to u) [ inl q ↦ d (ap (saidAt f l) (sym q) ∙ e) | inr q ↦ n .last k h q e ];
-  }
-
   -- the row a in use before i is that of an attempt
   pub record RowOf (i a : ℕ) : Type 0 where
     pub attempt : Attempt f l
@@ -77,35 +68,30 @@ module _ (f : Floor) (l : List (List ℕ)) where
     means-at i o e =
         subst (Meaning (floorAt f l i) (commandAt l i) (stepOf (floorAt f l i) (getD l i []) .floor)) e (step-means (floorAt f l i) (getD l i []) (lengths-at f l new i))
 
-    pub row-at : (i a : ℕ) → InUse (floorAt f l i) a → RowOf i a
-    unfolding floorAt stepOf newRow
-    row-at zero a h = absurd (new .unused a h)
-    row-at (suc i) a h = elim (apply-in-use (floorAt f l i) (commandAt l i) a h) [
-      | inl e ↦ (
-          let b = means-at i (said.Begun a) e in
-          let r = ap (rowAt (floorAt f l (suc i))) (b .next) ∙ b .row in
-          record {
-            attempt = record { at = i; station = b .station; round = b .round; offer = b .offer; number = a; asked = b .command; begun = e };
-            number = refl;
-            named = record { earlier = omega arith; last = λ k p q. absurd (omega arith) };
-            station = sym (ap (λ (w : Row). w .station) r);
-            rank = sym (ap (λ (w : Row). w .rank) r);
-          })
-      | inr u ↦ (
-          let o = row-at i a (u .0) in
-          let k = row-same (floorAt f l i) (commandAt l i) a (u .1) in
-          record {
-            attempt = o .attempt;
-            number = o .number;
-            named = named-more (λ e. u .1 (e ∙ ap said.Begun (o .number))) (o .named);
-            station = o .station ∙ sym (k .station);
-            rank = o .rank ∙ sym (k .rank);
-          })
-    ]
-
     -- the run is safe in each department
     pub safe : (d : Department) → Safety (runIn f l new d)
     safe d = safety Suit Suit (f .n) figure1 (consensus-fits suit0) (runIn f l new d)
+
+    -- the attempts of the machine's run in the department of a row are those of the list
+    pub row-at : (i a : ℕ) → InUse (floorAt f l i) a → RowOf i a
+    row-at i a h =
+        let d = rowDepartment a in
+        let o = safe d .row i a (refl, h) in
+        let x = o .attempt in
+        let k = says-at f l d (x .at) (x .begun) in
+        record {
+          attempt = record { at = x .at; station = x .station; round = x .round; offer = x .offer; number = x .number; asked = k .0; begun = k .1 };
+          number = o .number;
+          named = record {
+            earlier = o .named .earlier;
+            last = λ j u v e.
+                let b = means-at j (said.Begun (x .number)) e in
+                let own : departmentAt (floorAt f l j) (b .station) ≡ d = sym (next-own (floorAt f l j) _ (b .may .row)) ∙ ap rowDepartment (sym (b .next)) ∙ k .2 in
+                o .named .last j (b .station) (b .round) (b .offer) u v (rw (b .command, e) (within-own d _ _ own));
+          };
+          station = o .station;
+          rank = o .rank;
+        }
 
     -- a station that reads or writes is in a row of its own, and reads before its write is issued
     module _ (i j a : ℕ) where

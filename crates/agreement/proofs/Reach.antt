@@ -86,7 +86,7 @@ case-says d (stopped z y) = tt
 case-says {f} d (left {s = s} z y) = says-within d (departmentAt f s) _ _ _ (λ _. tt)
 case-says d (returned z y) = tt
 
-pub says : (d : Department) (f : Floor) (r : List ℕ) → Says d (commandOf r) (stepOf f r .outcome) (labelOf d f (commandOf r) (stepOf f r .outcome))
+says : (d : Department) (f : Floor) (r : List ℕ) → Says d (commandOf r) (stepOf f r .outcome) (labelOf d f (commandOf r) (stepOf f r .outcome))
 says d f r = case-says d (step-case f r)
 
 -- a step of the department says what it says
@@ -107,6 +107,10 @@ module _ (f : Floor) (l : List (List ℕ)) where
   -- what the step at i says in the department d
   abbrev pub labelAt : Department → ℕ → Label Suit Suit
   labelAt d i = labelOf d (floorAt f l i) (commandAt l i) (saidAt f l i)
+
+  -- read back
+  pub says-at : (d : Department) (i : ℕ) {t : Label Suit Suit} → labelAt d i ≡ t → Says d (commandAt l i) (saidAt f l i) t
+  says-at d i e = subst (Says d (commandAt l i) (saidAt f l i)) e (says d (floorAt f l i) (getD l i []))
 
   module _ (new : New f) where
     pub lengths-at : (i : ℕ) → Lengths (floorAt f l i)

@@ -7,7 +7,7 @@ use mathlib.Core.Bool.{true, false}
 use mathlib.Core.List.{List, [], _∷_}
 use lib.ListN.{length}
 use lib.Count.{ones, onesIn}
-use Rattle.suits.specs.Suits.{Words}
+use Rattle.suits.specs.Suits.{FourBytes}
 use Rattle.suits.specs.declared.Suit.{Suit}
 use Rattle.base.specs.Choice.{if_then_else_}
 use Rattle.base.specs.Numbers.{sizesRight}
@@ -58,7 +58,7 @@ used-up h = elim (given-back 1 2 (0 ∷ 0 ∷ []) crowd .used Sails 191) [
 ]
 
 -- row 1 is free, and station 0 idle
-pub alone-reused : (v : Suit) → Words v → DrivenAlone pair crowd 0 v (soloOf (floorLeft pair crowd) 0 v)
+pub alone-reused : (v : Suit) → FourBytes v → DrivenAlone pair crowd 0 v (soloOf (floorLeft pair crowd) 0 v)
 alone-reused v q =
     let t : List ℕ = 0 ∷ 0 ∷ [] in
     let l = crowd in

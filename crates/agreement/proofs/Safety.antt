@@ -5,9 +5,7 @@ use native.Mathlib.Omega.{arith}
 use mathlib.Core.Path.{_≡_, refl, sym, ap, subst, _∙_}
 use mathlib.Core.Logic.{inl, inr}
 use mathlib.Core.Bool.{Bool, true, false}
-use mathlib.Core.List.{List, []}
-use lib.ListN.{getD}
-use Rattle.suits.specs.Suits.{suit0}
+use mathlib.Core.List.{List}
 use Rattle.suits.specs.declared.Suit.{Suit}
 use Rattle.requests.specs.declared.Phase.the-variants.{Write}
 use Rattle.register.specs.declared.Department.{Department}
@@ -26,9 +24,7 @@ use Rattle.agreement.specs.Words.{Before, commandAt, Attempt, attemptDep
 use Rattle.floor.specs.Runs.{floorAt, saidAt}
 use Rattle.agreement.specs.Demand.{Safety}
 use Rattle.machine.specs.Runs as machine
-use Rattle.machine.proofs.Runs.{offered}
-use Rattle.machine.proofs.Consensus.{consensus-fits}
-use Rattle.agreement.proofs.Reach.{New, Says, says, within-own, runIn}
+use Rattle.agreement.proofs.Reach.{New, says-at, within-own, runIn}
 use Rattle.base.proofs.Cases.{clash, up-to}
 use Rattle.agreement.proofs.Positions.{Serving, later, now, means-at, row-at, safe}
 
@@ -58,9 +54,9 @@ module _ (f : Floor) (l : List (List ℕ)) where
 
     validity : (d : Department) (i : ℕ) (v : Suit) → DecidedIn f l d v i → Before (OfferedAt f l d v) i
     validity d i v e =
-        let x = offered (consensus-fits suit0) (runIn f l new d) i v (decided-at d i v e) in
+        let x = safe f l new d .validity i v (decided-at d i v e) in
         let y = x .holds in
-        let k = subst (Says d (commandAt l (x .at)) (saidAt f l (x .at))) (y .said) (says d (floorAt f l (x .at)) (getD l (x .at) [])) in
+        let k = says-at f l d (x .at) (y .said) in
         record {
           at = x .at;
           earlier = x .earlier;
@@ -87,7 +83,7 @@ module _ (f : Floor) (l : List (List ℕ)) where
     served-before : (d : Department) (i r b : ℕ) → machine.Before (machine.ServedAt (runIn f l new d) r b) i → Before (ServedAt f l d r b) i
     served-before d i r b x =
         let y = x .holds in
-        let k = subst (Says d (commandAt l (x .at)) (saidAt f l (x .at))) (y .said) (says d (floorAt f l (x .at)) (getD l (x .at) [])) in
+        let k = says-at f l d (x .at) (y .said) in
         record { at = x .at; earlier = x .earlier; holds = served-at d (x .at) r b (record { attempt = y .row; of = k .2; used = y .used .1; rank = y .rank; phase = y .phase; asked = k .0; accepted = k .1 }) }
 
     abort : (i a : ℕ) → saidAt f l i ≡ said.Aborted a → OutrankedAt f l i

@@ -6,7 +6,7 @@ use mathlib.Core.Logic.{inl, inr}
 use mathlib.Core.Bool.{true, false}
 use mathlib.Core.List.{List, [], _∷_}
 use lib.ListN.{getD, replicate}
-use Rattle.suits.specs.Suits.{Words}
+use Rattle.suits.specs.Suits.{FourBytes}
 use Rattle.suits.specs.declared.Suit.{Suit}
 use Rattle.base.specs.Bytes.{Bytes}
 use Rattle.base.specs.Records.{AllRecords}
@@ -47,8 +47,8 @@ use Rattle.floor.proofs.Moves.{apply-box, apply-row}
 
 pub record RowFits (w : Row) : Type 0 where
   pub rank : w .rank < 2 ^ 32
-  pub offer : Words (w .offer)
-  pub written : Words (w .written)
+  pub offer : FourBytes (w .offer)
+  pub written : FourBytes (w .written)
   pub answers : (j : ℕ) → (getD (w .answers) j answer0 .rank < 2 ^ 32) × (getD (w .answers) j answer0 .value .r0 < 2 ^ 32)
 
 pub record FloorFits (f : Floor) : Type 0 where
@@ -81,7 +81,7 @@ found-fits : {l : List Answer} {m : Requests} {k : ℕ} {x : Best} → ((j : ℕ
 found-fits h (nothing z) = omega arith
 found-fits h (highest {b} p q r t) = h b
 
-revision-fits : (w : Row) (n : ℕ) → RowFits w → Words (revisionOf w n)
+revision-fits : (w : Row) (n : ℕ) → RowFits w → FourBytes (revisionOf w n)
 unfolding revisionOf revisionFrom
 revision-fits w n h =
     by-test (λ (v : Suit). v .r0 < 2 ^ 32) _ _ _ (λ _. h .offer) (λ _. found-fits (λ j. h .answers j .1) (best-found (w .answers) (w .read) n))

@@ -10,7 +10,7 @@ use lib.Dec.{eqb, leb}
 use lib.Count.{ones, onesIn}
 use borrow.Author.Tests.{leb-true, eqb-true, not-true}
 use Rattle.suits.specs.Suits as suits
-use Rattle.suits.specs.Suits.{Words}
+use Rattle.suits.specs.Suits.{FourBytes}
 use Rattle.suits.specs.declared.Suit.{Suit}
 use Rattle.base.specs.Choice.{if_then_else_}
 use Rattle.base.specs.Numbers.{sizesRight}
@@ -213,7 +213,7 @@ no-attempt : (x : Attempt five stops) → ¬ (x .at < 2)
 no-attempt x h = let e = only-stops (x .at) _ h (x .begun) .2 in let z : _≡_ {A = ℕ} 0 1 = cc in omega arith
 
 -- with 2 of 5 boxes away, whatever revision station 0 offers
-alone : (v : Suit) → Words v → DrivenAlone five stops 0 v (soloOf (floorLeft five stops) 0 v)
+alone : (v : Suit) → FourBytes v → DrivenAlone five stops 0 v (soloOf (floorLeft five stops) 0 v)
 alone v q =
     demand3 5 1 (0 ∷ []) stops .solo 0 v (omega (arith, computed .sizes .1)) idle
     (record {
@@ -225,7 +225,7 @@ alone v q =
     (record { round = 1; least = omega arith; most = omega arith; outranks = λ x h _. absurd (no-attempt x h) })
     q
 
-thirteen : (v : Suit) → Words v → soloOf (floorLeft five stops) 0 v .steps ≡ 13
+thirteen : (v : Suit) → FourBytes v → soloOf (floorLeft five stops) 0 v .steps ≡ 13
 thirteen v q = omega (arith, alone v q .count, computed .sizes .0)
 
 -- Boxes that come back.
@@ -252,7 +252,7 @@ idle-back = record {
   aborted = λ x h _. clash (only-moves (x .at) h _ (x .begun)) refl;
 }
 
-alone-back : (v : Suit) → Words v → DrivenAlone five oneBack 0 v (soloOf (floorLeft five oneBack) 0 v)
+alone-back : (v : Suit) → FourBytes v → DrivenAlone five oneBack 0 v (soloOf (floorLeft five oneBack) 0 v)
 alone-back v q =
     demand3 5 1 (0 ∷ []) oneBack .solo 0 v (omega (arith, computed .sizes .1)) idle-back
     (record {
@@ -332,7 +332,7 @@ idle-behind = record {
 }
 
 -- whatever revision it offers
-alone-behind : (v : Suit) → Words v → DrivenAlone three exampleI 0 v (soloOf (floorLeft three exampleI) 0 v)
+alone-behind : (v : Suit) → FourBytes v → DrivenAlone three exampleI 0 v (soloOf (floorLeft three exampleI) 0 v)
 alone-behind v q =
     demand3 3 2 (0 ∷ 0 ∷ []) exampleI .solo 0 v (omega (arith, computed .all .1)) idle-behind
     (record { set = λ b. true; large = rw (computed .all .0) (omega (arith, computed .all .2)); each = λ b h t. never (λ x. nobody-left (x .at) (x .earlier) (said.Stopped b) refl (x .holds)) })

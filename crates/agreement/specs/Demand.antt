@@ -5,7 +5,7 @@ use mathlib.Core.Path.{_≡_}
 use mathlib.Core.Bool.{false}
 use mathlib.Core.List.{List, _++_}
 use lib.ListN.{length}
-use Rattle.suits.specs.Suits.{Words}
+use Rattle.suits.specs.Suits.{FourBytes}
 use Rattle.suits.specs.declared.Suit.{Suit}
 use Rattle.base.specs.Numbers.{quorum}
 use Rattle.base.specs.Quorum.{AtLeast}
@@ -75,7 +75,7 @@ pub record Demand3 (f : Floor) (l : List (List ℕ)) : Type 0 where
       → AtLeast (quorum (f .n)) (f .n) (Answering f l (length l))
       → RowLeft f l (departmentAt f s) (length l)
       → RoundLeft f l (departmentAt f s) s (length l)
-      → Words v
+      → FourBytes v
       → DrivenAlone f l s v (soloOf (floorLeft f l) s v)
 
 -- "Demand 3 is a single claim about the list": it holds of every list, from a new floor of any n and m, told any departments.

@@ -5,7 +5,7 @@ use mathlib.Core.Path.{_≡_}
 use mathlib.Core.List.{List, [], _∷_}
 use lib.ListN.{length}
 use Rattle.suits.specs.Suits as suits
-use Rattle.suits.specs.Suits.{Words}
+use Rattle.suits.specs.Suits.{FourBytes}
 use Rattle.suits.specs.declared.Suit.{Suit}
 use Rattle.requests.specs.declared.Phase.the-variants.{Read, Write}
 use Rattle.commands.specs.Commands.{encodeOf}
@@ -115,7 +115,7 @@ pub record Worked : Type 0 where
   pub not-free : ¬ FreeAt one single 0 4
   -- no row is unused behind `crowd`; station 0 is driven alone in one that is given back, whatever revision it offers
   pub used-up : ¬ (attemptsBefore pair crowd Sails (length crowd) < 64)
-  pub alone-reused : (v : Suit) → Words v → DrivenAlone pair crowd 0 v (soloOf (floorLeft pair crowd) 0 v)
+  pub alone-reused : (v : Suit) → FourBytes v → DrivenAlone pair crowd 0 v (soloOf (floorLeft pair crowd) 0 v)
   -- wish 6: each department decides its own revision, and the box holds both
   pub first-decided : saidAt two both 8 ≡ said.Decided (suits.single 7)
   pub second-decided : saidAt two both 9 ≡ said.Decided (suits.single 9)
@@ -132,11 +132,11 @@ pub record Worked : Type 0 where
   pub not-away : saidAt three cameBack 8 ≡ said.Refused 23
   pub away-from : AwayFrom three cameBack 1 3 5
   -- with 3 of 5 boxes away and one of them back, whatever revision station 0 offers
-  pub alone-back : (v : Suit) → Words v → DrivenAlone five oneBack 0 v (soloOf (floorLeft five oneBack) 0 v)
+  pub alone-back : (v : Suit) → FourBytes v → DrivenAlone five oneBack 0 v (soloOf (floorLeft five oneBack) 0 v)
   -- J: with 2 of 5 boxes stopped, whatever revision station 0 offers
-  pub alone : (v : Suit) → Words v → DrivenAlone five stops 0 v (soloOf (floorLeft five stops) 0 v)
-  pub thirteen : (v : Suit) → Words v → soloOf (floorLeft five stops) 0 v .steps ≡ 13
+  pub alone : (v : Suit) → FourBytes v → DrivenAlone five stops 0 v (soloOf (floorLeft five stops) 0 v)
+  pub thirteen : (v : Suit) → FourBytes v → soloOf (floorLeft five stops) 0 v .steps ≡ 13
   -- behind I station 0 is idle after its abort, and two of three boxes hold another's revision; whatever it offers
   pub idle-behind : IdleAt three exampleI 0 (length exampleI)
   pub held-behind : (heldAt 0 ≡ suits.single 7) × (heldAt 1 ≡ suits.single 9) × (heldAt 2 ≡ suits.single 9)
-  pub alone-behind : (v : Suit) → Words v → DrivenAlone three exampleI 0 v (soloOf (floorLeft three exampleI) 0 v)
+  pub alone-behind : (v : Suit) → FourBytes v → DrivenAlone three exampleI 0 v (soloOf (floorLeft three exampleI) 0 v)

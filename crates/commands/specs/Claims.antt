@@ -5,7 +5,7 @@ use mathlib.Core.Bool.{false}
 use mathlib.Core.List.{List, _∷_}
 use lib.ListN.{length}
 use Rattle.base.specs.Bytes.{Bytes}
-use Rattle.suits.specs.Suits.{Words}
+use Rattle.suits.specs.Suits.{FourBytes}
 use Rattle.commands.specs.Commands.{commandOf, encodeOf}
 use Rattle.commands.specs.Outcomes.{numberOf, isRefused}
 use Rattle.commands.specs.declared.Command.{Command}
@@ -14,7 +14,7 @@ use Rattle.commands.specs.declared.Outcome.{Outcome}
 
 -- the fields of a command as the code holds them: one byte each, the round two, the revision four
 abbrev pub Fielded : (c : Command) → Type 0
-Fielded (Begin s round v) = (s < 256) × (round < 65536) × Words v
+Fielded (Begin s round v) = (s < 256) × (round < 65536) × FourBytes v
 Fielded (Serve p a b) = (a < 256) × (b < 256)
 Fielded (Deliver p a b) = (a < 256) × (b < 256)
 Fielded (Stop b) = b < 256

@@ -1,4 +1,4 @@
--- A run by positions: its history, and what it shows.
+-- A run by positions: its history, what it shows, and so its safety.
 use Prim.Native.Nat.{ℕ, zero, suc, _+_, _≤_, _<_}
 use native.Mathlib.Nat.{eq-or-lt-of-le}
 use native.Mathlib.Decide.{ℕ-discrete, decLe}
@@ -22,9 +22,9 @@ use Rattle.requests.specs.declared.Stage.{Stage}
 use Rattle.requests.specs.declared.Stage.the-variants.{Unissued, Waiting, Answered}
 use Rattle.machine.specs.Machine.{Machine, Label, Row, Same, RowMoved, began, reading, writing}
 use Rattle.machine.specs.Machine as machine
-use Rattle.machine.specs.Rules.{Note, begun, nothing, History, Rule, Made, Fits, consensus}
-use Rattle.machine.specs.Runs.{Before, Run, Attempt, Named, RowOf, DecidedAt, OfferedAt, ServedAt, OutrankedAt, TakenAt, IssuedAt, SafetyTheorem}
-use Rattle.machine.proofs.Shows.{SeatShows, Shows}
+use Rattle.machine.specs.Rules.{Rule, Made, Fits}
+use Rattle.machine.specs.Runs.{Before, Run, Attempt, Named, RowOf, DecidedAt, OfferedAt, OfferedBefore, HeldAt, ServedAt, OutrankedAt, TakenAt, IssuedAt, SafetyTheorem}
+use Rattle.machine.proofs.Shows.{Note, begun, nothing, History, Begun, OfferedIn, SeatShows, Shows}
 use Rattle.machine.proofs.Steps.{eventOf, step-to, decided-chosen, Beaten, aborted-beaten, heard-same}
 
 -- what held before i, and what holds at i, held before suc i
@@ -58,7 +58,7 @@ module _ {A O : Type 0} {n : ℕ} {R : Rule A O} (F : Fits R) (k : Run n R) wher
   ]
 
   record Reached (i : ℕ) : Type 0 where
-    run : theory.Run n (R .Follows) (R .Offered) (k .at i .box) (history i)
+    run : theory.Run n (R .Follows) (OfferedIn R) (k .at i .box) (history i)
     shows : Shows R (k .at i) (history i)
 
   reached : (i : ℕ) → Reached i
@@ -76,8 +76,8 @@ module _ {A O : Type 0} {n : ℕ} {R : Rule A O} (F : Fits R) (k : Run n R) wher
   }
   reached (suc i) = let r = reached i in let g = step-to n R F (r .shows) (k .step i) in record { run = theory.next (r .run) (g .step); shows = g .shows }
 
-  claims : (i : ℕ) → Claims n (R .Follows) (R .Offered) (k .at i .box) (history i)
-  claims i = theory A (Note O) n (R .Follows) (R .Offered) (F .preorder) (F .persistent) (k .at i .box) (history i) (reached i .run)
+  claims : (i : ℕ) → Claims n (R .Follows) (OfferedIn R) (k .at i .box) (history i)
+  claims i = theory A (Note O) n (R .Follows) (OfferedIn R) (F .preorder) (λ e l v. F .more (Begun l) (Begun (e ∷ l)) (λ o. List·Memᴰ·tail) v) (k .at i .box) (history i) (reached i .run)
 
   -- what an event came of
   abbrev Cause : ℕ → Event A (Note O) → Type 0
@@ -110,7 +110,7 @@ module _ {A O : Type 0} {n : ℕ} {R : Rule A O} (F : Fits R) (k : Run n R) wher
   served-before i r b (by-write m) = caused (took r b) i m
 
   -- a value decided at i was chosen, and stays so
-  chosen-at : (i t : ℕ) (v : A) → i ≤ t → (d : DecidedAt k v i) → Chosen n (view (R .Offered) (k .at t .box) (history t)) (k .at i .row (d .row) .rank) v
+  chosen-at : (i t : ℕ) (v : A) → i ≤ t → (d : DecidedAt k v i) → Chosen n (view (OfferedIn R) (k .at t .box) (history t)) (k .at i .row (d .row) .rank) v
   chosen-at i t v h d =
       let c = decided-chosen n R F (reached i .shows) (d .row) (d .box) v (subst (machine.Step n (R .Makes) (k .at i) (k .at (suc i))) (d .said) (k .step i)) in
       record { issued = still-happened i t h (c .issued); taken = majority-map (λ b m. still-happened i t h m) (c .taken) }
@@ -124,9 +124,12 @@ module _ {A O : Type 0} {n : ℕ} {R : Rule A O} (F : Fits R) (k : Run n R) wher
         | no h ↦ inr (claims (i + j) .agreement _ _ v u g c (omega arith))
       ]
 
-  -- a value decided was offered before
-  pub validity : (i : ℕ) (v : A) → DecidedAt k v i → R .Offered (history i) v
-  validity i v d = claims i .validity _ v (chosen-at i i v (omega arith) d .issued)
+  -- what was issued is made of offers begun before
+  offered : (i r : ℕ) (v : A) → List·Memᴰ (issued r v) (history i) → OfferedBefore k v i
+  offered i r v m = F .more (Begun (history i)) (λ o. Before (OfferedAt k o) i) (λ o. caused (note (begun o)) i) v (claims i .validity r v m)
+
+  validity : (i : ℕ) (v : A) → DecidedAt k v i → OfferedBefore k v i
+  validity i v d = offered i _ v (chosen-at i i v (omega arith) d .issued)
 
   outranked-by : (i r : ℕ) (p : Phase) (c : ℕ) → 0 < r → Beaten (history i) r p c → Outranked (history i) r c
   outranked-by i r Read c h m = claims i .nack-outranked r c m
@@ -157,6 +160,9 @@ module _ {A O : Type 0} {n : ℕ} {R : Rule A O} (F : Fits R) (k : Run n R) wher
         taken = majority-map (λ b o. still-happened (suc (o .at)) z (omega (arith, o .earlier)) (List·Memᴰ·head (rw (o .holds .said) (ap (λ (w : ℕ). took w b) (sym (o .holds .rank)))))) m;
       }) (issued-noted j z r v (omega arith) d) h
 
+  row-same : {w z : Row A O} → z ≡ w → Same w z
+  row-same e = record { station = ap (λ (x : Row A O). x .station) e; rank = ap (λ (x : Row A O). x .rank) e; offer = ap (λ (x : Row A O). x .offer) e }
+
   -- A row in use after a step: the step began its attempt, or it was in use before and is the same attempt's.
   record Opens (y : Machine A O) (t : Label A O) (a : ℕ) : Type 0 where
     station : ℕ
@@ -165,24 +171,23 @@ module _ {A O : Type 0} {n : ℕ} {R : Rule A O} (F : Fits R) (k : Run n R) wher
     said : t ≡ began station round offer a
     owner : y .row a .station ≡ station
     rank : y .row a .rank ≡ rankOf round station
+    made : y .row a .offer ≡ offer
 
   record Stays (x y : Machine A O) (t : Label A O) (a : ℕ) : Type 0 where
     used : x .Used a
-    station : y .row a .station ≡ x .row a .station
-    rank : y .row a .rank ≡ x .row a .rank
+    same : Same (x .row a) (y .row a)
     other : (s round : ℕ) (o : O) → ¬ (t ≡ began s round o a)
 
   module _ {x y : Machine A O} {t : Label A O} (not : (s round a : ℕ) (o : O) → ¬ (t ≡ began s round o a)) (a : ℕ) where
     moved-stays : {c : ℕ} {C : Row A O → Row A O → Type 0} → RowMoved x y c C → Same (x .row c) (y .row c) → y .Used a → Opens y t a ⊎ Stays x y t a
     moved-stays {c} m q h = inr (record {
       used = m .used a h;
-      station = elim (ℕ-discrete a c) [ yes p ↦ rw p (q .station) | no p ↦ ap (λ (w : Row A O). w .station) (m .same a p) ];
-      rank = elim (ℕ-discrete a c) [ yes p ↦ rw p (q .rank) | no p ↦ ap (λ (w : Row A O). w .rank) (m .same a p) ];
+      same = elim (ℕ-discrete a c) [ yes p ↦ subst (λ (j : ℕ). Same (x .row j) (y .row j)) (sym p) q | no p ↦ row-same (m .same a p) ];
       other = λ s r o. not s r a o;
     })
 
     rows-stay : machine.SameRows x y → y .Used a → Opens y t a ⊎ Stays x y t a
-    rows-stay m h = inr (record { used = m .used a h; station = ap (λ (w : Row A O). w .station) (m .same a h); rank = ap (λ (w : Row A O). w .rank) (m .same a h); other = λ s r o. not s r a o })
+    rows-stay m h = inr (record { used = m .used a h; same = row-same (m .same a h); other = λ s r o. not s r a o })
 
   -- nothing but a begin says began
   abbrev isBegan : Label A O → Bool
@@ -200,11 +205,10 @@ module _ {A O : Type 0} {n : ℕ} {R : Rule A O} (F : Fits R) (k : Run n R) wher
 
   row-from : {x y : Machine A O} {t : Label A O} → machine.Step n (R .Makes) x y t → (a : ℕ) → y .Used a → Opens y t a ⊎ Stays x y t a
   row-from (machine.begin {s = s} {round = round} {a = c} {o = o} boxes h _ u m edit) a k = elim (ℕ-discrete a c) [
-    | yes q ↦ inl (record { station = s; round = round; offer = o; said = ap (began s round o) (sym q); owner = rw q (m .taken .station); rank = rw q (m .taken .rank) })
+    | yes q ↦ inl (record { station = s; round = round; offer = o; said = ap (began s round o) (sym q); owner = rw q (m .taken .station); rank = rw q (m .taken .rank); made = rw q (m .taken .offer) })
     | no q ↦ inr (record {
       used = m .used a k q;
-      station = ap (λ (w : Row A O). w .station) (m .same a q);
-      rank = ap (λ (w : Row A O). w .rank) (m .same a q);
+      same = row-same (m .same a q);
       other = λ s r o e. q (cc (e));
     })
   ]
@@ -234,6 +238,7 @@ module _ {A O : Type 0} {n : ℕ} {R : Rule A O} (F : Fits R) (k : Run n R) wher
       named = record { earlier = omega arith; last = λ j s r o p q. absurd (omega arith) };
       station = sym (b .owner);
       rank = sym (b .rank);
+      offer = sym (b .made);
     }
     | inr u ↦ (
         let o = row-at i a (u .used) in
@@ -241,8 +246,9 @@ module _ {A O : Type 0} {n : ℕ} {R : Rule A O} (F : Fits R) (k : Run n R) wher
           attempt = o .attempt;
           number = o .number;
           named = named-more (λ s r v e. u .other s r v (subst (λ (c : ℕ). k .said i ≡ began s r v c) (o .number) e)) (o .named);
-          station = o .station ∙ sym (u .station);
-          rank = o .rank ∙ sym (u .rank);
+          station = o .station ∙ sym (u .same .station);
+          rank = o .rank ∙ sym (u .same .rank);
+          offer = o .offer ∙ sym (u .same .offer);
         })
   ]
 
@@ -265,42 +271,30 @@ module _ {A O : Type 0} {n : ℕ} {R : Rule A O} (F : Fits R) (k : Run n R) wher
   received i a b Read u = reached i .shows .rows a u .reads .received b
   received i a b Write u = reached i .shows .rows a u .writes .received b
 
-  -- Every value anywhere was offered, or is what new boxes hold: in a box, answered to a row's read, and written by a row.
-  pub held-offered : (i b : ℕ) → 0 < k .at i .box b .writeRank → R .Offered (history i) (k .at i .box b .value)
-  held-offered i b h = claims i .validity _ _ (claims i .invariant .held b h)
+  held : (i b : ℕ) → HeldAt k (k .at i .box b .writeRank) (k .at i .box b .value) i
+  held i b = (reached i .shows .boxes b, λ h. offered i _ _ (claims i .invariant .held b h))
 
-  pub held-start : (i b : ℕ) → k .at i .box b .writeRank ≡ 0 → k .at i .box b .value ≡ R .start
-  held-start i b = reached i .shows .boxes b
+  found : (i a b : ℕ) → k .at i .Used a → k .at i .row a .read .slot b .stage ≡ Answered → k .at i .row a .read .slot b .ok ≡ true
+      → HeldAt k (k .at i .row a .found b .rank) (k .at i .row a .found b .value) i
+  found i a b u h t =
+      let r = reached i .shows .rows a u .reads in
+      (r .empty b h t, λ p. offered i _ _ (claims i .answer-issued _ b _ _ (r .answered b h t) p))
 
-  module _ (i a b : ℕ) (u : k .at i .Used a) where
-    pub found-offered : k .at i .row a .read .slot b .stage ≡ Answered → k .at i .row a .read .slot b .ok ≡ true → 0 < k .at i .row a .found b .rank
-        → R .Offered (history i) (k .at i .row a .found b .value)
-    found-offered h t p = claims i .validity _ _ (claims i .answer-issued _ b _ _ (reached i .shows .rows a u .reads .answered b h t) p)
-
-    pub found-start : k .at i .row a .read .slot b .stage ≡ Answered → k .at i .row a .read .slot b .ok ≡ true → k .at i .row a .found b .rank ≡ 0
-        → k .at i .row a .found b .value ≡ R .start
-    found-start = reached i .shows .rows a u .reads .empty b
-
-    pub written-offered : ¬ (k .at i .row a .write .slot b .stage ≡ Unissued) → R .Offered (history i) (k .at i .row a .written)
-    written-offered n = claims i .validity _ _ (reached i .shows .rows a u .writes .issue b n)
-
-    pub written-made : ¬ (k .at i .row a .write .slot b .stage ≡ Unissued) → Made R (k .at i .row a .offer) (k .at i .row a .written)
-    written-made = reached i .shows .rows a u .made b
+  written : (i a b : ℕ) → k .at i .Used a → ¬ (k .at i .row a .write .slot b .stage ≡ Unissued) → OfferedBefore k (k .at i .row a .written) i
+  written i a b u n = offered i _ _ (reached i .shows .rows a u .writes .issue b n)
 
   -- what is decided was made from the offer of its attempt
   decides-made : {x y : Machine A O} {l : History A O} {a b : ℕ} {v : A} → Shows R x l → machine.Step n (R .Makes) x y (machine.decided a b v) → Made R (x .row a .offer) v
   decides-made {a = a} {b = b} s (machine.decide h boxes seat m g edit) = s .rows a (m .mine) .made b (λ q. let z : _≡_ {A = ℕ} 0 1 = cc (h, q) in omega arith)
 
-  pub decided-made : (i : ℕ) (v : A) (d : DecidedAt k v i) → Made R (k .at i .row (d .row) .offer) v
-  decided-made i v d = decides-made (reached i .shows) (subst (machine.Step n (R .Makes) (k .at i) (k .at (suc i))) (d .said) (k .step i))
-
--- where a station writes an offer or what it read, what is decided was offered before
-pub offered : {A : Type 0} {n : ℕ} {start : A} (F : Fits (consensus start)) (k : Run n (consensus start)) (i : ℕ) (v : A) → DecidedAt k v i → Before (OfferedAt k v) i
-offered F k i v d = caused F k (note (begun v)) i (validity F k i v d)
+  made : (i : ℕ) (v : A) (d : DecidedAt k v i) → Made R (k .at i .row (d .row) .offer) v
+  made i v d = decides-made (reached i .shows) (subst (machine.Step n (R .Makes) (k .at i) (k .at (suc i))) (d .said) (k .step i))
 
 pub safety : SafetyTheorem
 safety A O n R F k = record {
   agreement = agreement F k;
+  validity = validity F k;
+  made = made F k;
   abort = abort F k;
   settled = settled F k;
   row = row-at F k;
@@ -308,4 +302,7 @@ safety A O n R F k = record {
   reads = reads F k;
   writes = writes F k;
   received = received F k;
+  held = held F k;
+  found = found F k;
+  written = written F k;
 }

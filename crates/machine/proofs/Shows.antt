@@ -5,11 +5,27 @@ use native.Mathlib.Decide.{ℕ-discrete}
 use mathlib.Core.Path.{_≡_, sym, ap, subst, _∙_}
 use mathlib.Core.Logic.{_⊎_, inl, inr}
 use mathlib.Core.Bool.{true, false}
-use mathlib.Core.List.{_∷_, List·Memᴰ, List·Memᴰ·tail, List·Memᴰ·cases-cons}
+use mathlib.Core.List.{List, _∷_, List·Memᴰ, List·Memᴰ·tail, List·Memᴰ·cases-cons}
 use Rattle.requests.specs.declared.Stage.the-variants.{Unissued, Answered}
 use Rattle.protocol.specs.Trace.{Event, read, nack, issued, took, refused, note, there, other}
 use Rattle.machine.specs.Machine.{Asked, Found, Row, Seat, none, reading, writing, Machine, SameBoxes, SameStations, SameRows, Sits}
-use Rattle.machine.specs.Rules.{Note, begun, nothing, History, Begun, Rule, Made}
+use Rattle.machine.specs.Rules.{Rule, Made}
+
+-- What a history keeps besides reads and writes: that an attempt with this offer was begun, or nothing.
+pub data Note (O : Type 0) : Type 0 where
+  begun : O → Note O
+  nothing : Note O
+
+-- newest first, one event for each step
+abbrev pub History : (A O : Type 0) → Type 0
+History A O = List (Event A (Note O))
+
+abbrev pub Begun : {A O : Type 0} → History A O → O → Type 0
+Begun l o = List·Memᴰ (note (begun o)) l
+
+-- the value v is made of offers begun
+abbrev pub OfferedIn : {A O : Type 0} → Rule A O → History A O → A → Type 0
+OfferedIn R l v = R .Offered (Begun l) v
 
 module _ {A O : Type 0} where
   -- 1 more than the rank at which an event issues or takes a write; 0 for every other event

@@ -19,8 +19,8 @@ use Rattle.protocol.specs.Trace.{Box, Event, read, nack, issued, took, refused,
 use Rattle.protocol.specs.Trace as theory
 use Rattle.machine.specs.Machine.{Found, Row, Seat, none, reading, writing, Station, Machine, Label, askedOf, SameBoxes, SameStations, RowMoved, Heard, Same, ReadServed, WriteServed, Agreed, Highest, begin, answer, tell, hear, decide, abort, leave, rest}
 use Rattle.machine.specs.Machine as machine
-use Rattle.machine.specs.Rules.{Note, begun, nothing, History, Rule, Made, Fits}
-use Rattle.machine.proofs.Shows.{writerOf, Unwritten, unwritten-more, ReadsShow, RowShows, SeatShows, Shows, Moves, reads-more, writes-more, row-more, seats-same, seats-moved, shows-moved, shows-rest}
+use Rattle.machine.specs.Rules.{Rule, Made, Fits}
+use Rattle.machine.proofs.Shows.{Note, begun, nothing, History, Begun, OfferedIn, writerOf, Unwritten, unwritten-more, ReadsShow, RowShows, SeatShows, Shows, Moves, reads-more, writes-more, row-more, seats-same, seats-moved, shows-moved, shows-rest}
 
 -- an edit at its place, and elsewhere
 module _ {T : Type 0} {x y : ℕ → T} {b : ℕ} {f : T → T} (e : (j : ℕ) → Edit x y b f j) where
@@ -227,7 +227,7 @@ module _ {A O : Type 0} (n : ℕ) (R : Rule A O) (F : Fits R) {x y : Machine A O
     read-of : (j : ℕ) → j < n → to .read .heard j ≡ true → List·Memᴰ (read (from .rank) j (to .found j .rank) (to .found j .value)) l
     read-of j k o = reads .answered j (reads .received j o) (g .yes j k o)
 
-    may-issue : MayIssue n (R .Follows) (view (R .Offered) (x .box) l) (from .rank) v
+    may-issue : MayIssue n (R .Follows) (view (OfferedIn R) (x .box) l) (from .rank) v
     may-issue = record {
       rank = u .rank;
       value = u .value;
@@ -236,11 +236,11 @@ module _ {A O : Type 0} (n : ℕ) (R : Rule A O) (F : Fits R) {x y : Machine A O
         highest = λ _. (top .box, subst (λ (f : Found A). List·Memᴰ (read (from .rank) (top .box) (f .rank) (f .value)) l) (top .is) (read-of (top .box) (top .below) (top .heard)));
       };
       follows = F .follows (from .offer) (u .rank) (u .value) v makes;
-      offered = F .offered l (from .offer) (u .rank) (u .value) v makes (s .rows a (m .mine) .offer)
+      offered = F .offered (Begun l) (from .offer) (u .rank) (u .value) v makes (s .rows a (m .mine) .offer)
           (subst (λ (f : Found A). f .rank ≡ 0 → f .value ≡ R .start) (top .is) (reads .empty (top .box) (reads .received (top .box) (top .heard)) (g .yes (top .box) (top .below) (top .heard))));
     }
 
-    issue-step : SameBoxes x y → theory.Step n (R .Follows) (R .Offered) (x .box) l (y .box) (issued (from .rank) v)
+    issue-step : SameBoxes x y → theory.Step n (R .Follows) (OfferedIn R) (x .box) l (y .box) (issued (from .rank) v)
     issue-step boxes = theory.issue boxes may-issue (λ w o. absurd (unwritten (issued (from .rank) w) o refl))
 
   issued-row : Made R (from .offer) v → RowShows R to (issued (from .rank) v ∷ l)
@@ -367,7 +367,7 @@ module _ {A O : Type 0} (R : Rule A O) {x y : Machine A O} {l : History A O} (s 
 
 -- From the machine x with the history l to y with the event e.
 pub record StepTo {A O : Type 0} (n : ℕ) (R : Rule A O) (x : Machine A O) (l : History A O) (y : Machine A O) (e : Event A (Note O)) : Type 0 where
-  pub step : theory.Step n (R .Follows) (R .Offered) (x .box) l (y .box) e
+  pub step : theory.Step n (R .Follows) (OfferedIn R) (x .box) l (y .box) e
   pub shows : Shows R y (e ∷ l)
 
 -- an attempt that aborts: a box told that its read is outranked, or refused its write and did not take it
@@ -417,7 +417,7 @@ module _ {A O : Type 0} (n : ℕ) (R : Rule A O) (F : Fits R) {x y : Machine A O
   }
 
   -- a value that is decided was chosen
-  pub decided-chosen : (a b : ℕ) (v : A) → machine.Step n (R .Makes) x y (machine.decided a b v) → Chosen n (view (R .Offered) (x .box) l) (x .row a .rank) v
+  pub decided-chosen : (a b : ℕ) (v : A) → machine.Step n (R .Makes) x y (machine.decided a b v) → Chosen n (view (OfferedIn R) (x .box) l) (x .row a .rank) v
   decided-chosen a b v (decide h boxes seat m g edit) =
       let r = heard-row R (y .row a) (s .rows a (m .mine)) Write b h (m .moved) .writes in
       let k = m .moved .same .rank in

@@ -1,4 +1,5 @@
--- What a department has of the floor, as the machine of crate `machine`: its records in the boxes, its rows in use, and its stations.
+-- The floor of panels as the machine of crate `machine`, one for each department: its records in the boxes, its rows in use, its stations, and
+-- what each step says in it.
 use Prim.Native.Nat.{ℕ}
 use mathlib.Core.Path.{_≡_}
 use mathlib.Core.Bool.{Bool}
@@ -40,12 +41,15 @@ use Rattle.machine.specs.Rules.{Rule, consensus}
 abbrev pub figure1 : Rule Suit Suit
 figure1 = consensus suit0
 
+-- the record of a department in a box
 abbrev pub boxOf : Register → Box Suit
 boxOf x = record { readRank = x .read; writeRank = x .write; value = x .value }
 
+-- the answer to a read that a row keeps
 abbrev pub foundIn : Answer → Found Suit
 foundIn x = record { rank = x .rank; value = x .value }
 
+-- the row of an attempt
 abbrev pub rowOf : concrete.Row → Row Suit Suit
 rowOf w = record {
   station = w .station;
@@ -57,6 +61,7 @@ rowOf w = record {
   write = asks (w .write);
 }
 
+-- the state of a station; one that is idle, decided or gone is in no attempt
 abbrev pub seatIn : State → Seat
 seatIn Idle = none
 seatIn (Reading a) = reading a
@@ -68,6 +73,7 @@ seatIn Gone = none
 unfoldable pub stationFor : Department → seated.Station → Station
 stationFor d x = if isOf d (x .department) then record { seat = seatIn (x .state); last = x .last } else record { seat = none; last = 0 }
 
+-- the department d of the floor
 abbrev pub panel : Department → Floor → Machine Suit Suit
 panel d f = record {
   box = λ b. boxOf (registerAt f d b);
@@ -88,20 +94,50 @@ abbrev pub answersTo : Floor → Phase → ℕ → ℕ → Bool
 answersTo f Read a b = isHeld (rmwRead (servedBy f a b) (rowAt f a .rank) .answer)
 answersTo f Write a b = rmwWrite (servedBy f a b) (rowAt f a .rank) (rowAt f a .written) .taken
 
--- the step with the command c on the floor f said the outcome
-abbrev pub labelOf : (d : Department) (f : Floor) (c : Command) → Outcome → Label Suit Suit
-labelOf d f c (said.Begun a) = elim c [ Begin s round v ↦ within d (departmentAt f s) (machine.began s round v a) | Serve p i b ↦ machine.quiet | Deliver p i b ↦ machine.quiet | Stop b ↦ machine.quiet | Leave s ↦ machine.quiet | Return b ↦ machine.quiet | Malformed ↦ machine.quiet ]
-labelOf d f c (said.Served a) = elim c [ Begin s round v ↦ machine.quiet | Serve p i b ↦ within d (rowDepartment i) (machine.served p i b (answersTo f p i b)) | Deliver p i b ↦ machine.quiet | Stop b ↦ machine.quiet | Leave s ↦ machine.quiet | Return b ↦ machine.quiet | Malformed ↦ machine.quiet ]
-labelOf d f c (said.Received a) = elim c [ Begin s round v ↦ machine.quiet | Serve p i b ↦ machine.quiet | Deliver p i b ↦ within d (rowDepartment i) (machine.heard p i b) | Stop b ↦ machine.quiet | Leave s ↦ machine.quiet | Return b ↦ machine.quiet | Malformed ↦ machine.quiet ]
-labelOf d f c (said.Aborted a) = elim c [ Begin s round v ↦ machine.quiet | Serve p i b ↦ machine.quiet | Deliver p i b ↦ within d (rowDepartment i) (machine.aborted p i b) | Stop b ↦ machine.quiet | Leave s ↦ machine.quiet | Return b ↦ machine.quiet | Malformed ↦ machine.quiet ]
-labelOf d f c (said.WriteIssued v) = elim c [ Begin s round u ↦ machine.quiet | Serve p i b ↦ machine.quiet | Deliver p i b ↦ within d (rowDepartment i) (machine.issued i b v) | Stop b ↦ machine.quiet | Leave s ↦ machine.quiet | Return b ↦ machine.quiet | Malformed ↦ machine.quiet ]
-labelOf d f c (said.Decided v) = elim c [ Begin s round u ↦ machine.quiet | Serve p i b ↦ machine.quiet | Deliver p i b ↦ within d (rowDepartment i) (machine.decided i b v) | Stop b ↦ machine.quiet | Leave s ↦ machine.quiet | Return b ↦ machine.quiet | Malformed ↦ machine.quiet ]
-labelOf d f c (said.Stopped b) = machine.quiet
-labelOf d f c (said.Gone s) = within d (departmentAt f s) (machine.left s)
-labelOf d f c (said.Back b) = machine.quiet
-labelOf d f c (said.Refused k) = machine.quiet
+-- A step that said begun was asked by a begin, and so on: t is what it says, of the numbers that the command names.
+abbrev pub ofBegin : (ℕ → ℕ → Suit → Label Suit Suit) → Command → Label Suit Suit
+ofBegin t (Begin s round v) = t s round v
+ofBegin t (Serve p a b) = machine.quiet
+ofBegin t (Deliver p a b) = machine.quiet
+ofBegin t (Stop b) = machine.quiet
+ofBegin t (Leave s) = machine.quiet
+ofBegin t (Return b) = machine.quiet
+ofBegin t Malformed = machine.quiet
 
--- What is claimed: every step of the floor is, in each department, a step of the machine, and says what it said.
+abbrev pub ofServe : (Phase → ℕ → ℕ → Label Suit Suit) → Command → Label Suit Suit
+ofServe t (Begin s round v) = machine.quiet
+ofServe t (Serve p a b) = t p a b
+ofServe t (Deliver p a b) = machine.quiet
+ofServe t (Stop b) = machine.quiet
+ofServe t (Leave s) = machine.quiet
+ofServe t (Return b) = machine.quiet
+ofServe t Malformed = machine.quiet
+
+abbrev pub ofDelivery : (Phase → ℕ → ℕ → Label Suit Suit) → Command → Label Suit Suit
+ofDelivery t (Begin s round v) = machine.quiet
+ofDelivery t (Serve p a b) = machine.quiet
+ofDelivery t (Deliver p a b) = t p a b
+ofDelivery t (Stop b) = machine.quiet
+ofDelivery t (Leave s) = machine.quiet
+ofDelivery t (Return b) = machine.quiet
+ofDelivery t Malformed = machine.quiet
+
+-- What the step with the command c on the floor f says in the department d, where it said the outcome.
+module _ (d : Department) (f : Floor) (c : Command) where
+  abbrev pub labelOf : Outcome → Label Suit Suit
+  labelOf (said.Begun a) = ofBegin (λ s round v. within d (departmentAt f s) (machine.began s round v a)) c
+  labelOf (said.Served a) = ofServe (λ p i b. within d (rowDepartment i) (machine.served p i b (answersTo f p i b))) c
+  labelOf (said.Received a) = ofDelivery (λ p i b. within d (rowDepartment i) (machine.heard p i b)) c
+  labelOf (said.Aborted a) = ofDelivery (λ p i b. within d (rowDepartment i) (machine.aborted p i b)) c
+  labelOf (said.WriteIssued v) = ofDelivery (λ p i b. within d (rowDepartment i) (machine.issued i b v)) c
+  labelOf (said.Decided v) = ofDelivery (λ p i b. within d (rowDepartment i) (machine.decided i b v)) c
+  labelOf (said.Stopped b) = machine.quiet
+  labelOf (said.Gone s) = within d (departmentAt f s) (machine.left s)
+  labelOf (said.Back b) = machine.quiet
+  labelOf (said.Refused k) = machine.quiet
+
+-- What is claimed (the field's term is a forward simulation): every step of the floor is, in each department, a step of the machine, and says
+-- what it said.
 abbrev pub Simulates : Type 0
 Simulates = (d : Department) (f : Floor) (r : List ℕ) → Owned f → Lengths f
     → Step (f .n) (figure1 .Makes) (panel d f) (panel d (stepOf f r .floor)) (labelOf d f (commandOf r) (stepOf f r .outcome))

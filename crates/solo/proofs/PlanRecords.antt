@@ -3,7 +3,7 @@ use Prim.Native.Nat.{ℕ, zero, suc, _+_, _≤_, _<_}
 use native.Mathlib.Omega.{arith}
 use mathlib.Core.List.{List, [], _∷_}
 use lib.ListN.{take}
-use Rattle.suits.specs.Suits.{Words}
+use Rattle.suits.specs.Suits.{FourBytes}
 use Rattle.suits.specs.declared.Suit.{Suit}
 use Rattle.base.specs.Numbers.{quorum}
 use Rattle.base.proofs.Choices.{by-test}
@@ -53,5 +53,5 @@ plan-rest f s hu hn =
     let u = below-take 256 (quorum (f .n)) (answering f) (answering-below 256 (f .boxes) (f .n) 0 (omega arith)) in
     all-append (exchanges Read (rowTaken f s) _) _ (exchanges-records Read (rowTaken f s) _ hu u) (exchanges-records Write (rowTaken f s) _ hu u)
 
-pub plan-records : (f : Floor) (s : ℕ) (v : Suit) → s < 256 → Words v → roundOf f s ≤ 65535 → rowTaken f s < 256 → f .n ≤ 256 → AllRecords (planOf f s v)
+pub plan-records : (f : Floor) (s : ℕ) (v : Suit) → s < 256 → FourBytes v → roundOf f s ≤ 65535 → rowTaken f s < 256 → f .n ≤ 256 → AllRecords (planOf f s v)
 plan-records f s v hs hv hr hu hn = (command-record (Begin s (roundOf f s) v) (hs, omega arith, hv), plan-rest f s hu hn)

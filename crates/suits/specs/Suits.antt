@@ -1,4 +1,4 @@
--- What a box, a row and a station keep as one value, and what is decided as one: today one revision.
+-- A suit, the value of consensus: what a box, a row and a station keep as one, and what is decided as one. It is one revision.
 use Prim.Native.Nat.{ℕ, _<_}
 use Rattle.suits.specs.declared.Suit.{Suit}
 
@@ -10,6 +10,6 @@ single v = record { r0 = v }
 abbrev pub suit0 : Suit
 suit0 = single 0
 
--- the revisions as the code holds them: four bytes each
-abbrev pub Words : (v : Suit) → Type 0
-Words v = v .r0 < 4294967296
+-- document 01, "A revision is a 32-bit number"; 0 is one too (wish 7)
+abbrev pub FourBytes : (v : Suit) → Type 0
+FourBytes v = v .r0 < 4294967296

@@ -1,4 +1,4 @@
-// A suit: what is decided as one, today one revision. A box, a row and a station keep whole suits.
+// A suit, the value of consensus: what is decided as one. A box, a row and a station keep whole suits, of one revision.
 ghost use mathlib.Core.Path.{_≡_};
 ghost use Rattle.suits.specs.Suits.{suit0, single};
 
