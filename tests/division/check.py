@@ -23,7 +23,7 @@ TOP = HERE.parents[1]
 OUT = TOP / "target" / "division-test"
 START = "solo::solo_finish"
 # What a walk that lost its way would not find.
-KNOWN = {"solo::round_above", "solo::put_record", "base::majority", "base::split32", "commands::encode", "commands::decode", "floor::run_sound", "floor::next_sound", "floor::free::better", "floor::free::all_served", "floor::share_of", "attempts::rows::waits_at", "attempts::rows::department_of", "register::box_with", "parts::kinds::change", "parts::begin::larger", "requests::masks::count_below", "register::rmw_write"}
+KNOWN = {"solo::round_above", "solo::put_record", "base::majority", "base::split32", "commands::encode", "commands::decode", "steps::run_sound", "steps::next_sound", "steps::free::better", "steps::free::all_served", "steps::share_of", "attempts::rows::waits_at", "attempts::rows::department_of", "register::box_with", "parts::kinds::change", "parts::begin::larger", "requests::masks::count_below", "register::rmw_write"}
 # Calls of no function of the source: the number of ones of a number, and the length of a slice.
 BUILT_IN = {"u16::count_ones", "len"}
 WORDS = {"if", "while", "match", "return", "loop", "else", "let", "in", "as"}
@@ -143,7 +143,7 @@ def links(source, target, *but):
 
 
 PROGRAM = """fn main() {
-    let made = floor::new_floor(3, 2, &[0, 1]);
+    let made = steps::new_floor(3, 2, &[0, 1]);
     let f = made.floor;
     let v = suits::of_one(9);
     let done = solo::solo_finish(f, 1, v);
@@ -171,7 +171,7 @@ def module_of(tree, out):
     keeps.chmod(0o755)
     links(tree / "crates", out / "crates")
     listed = (tree / "crates.txt").read_text()
-    (out / "crates.txt").write_text(listed.rstrip("\n") + "\nfinish: suits floor solo\n")
+    (out / "crates.txt").write_text(listed.rstrip("\n") + "\nfinish: suits floor steps solo\n")
     (out / "crates" / "finish" / "src").mkdir(parents=True)
     (out / "crates" / "finish" / "src" / "main.rt").write_text(PROGRAM)
     (out / "crates" / "finish" / "stdout").write_text("")

@@ -41,7 +41,7 @@ use Rattle.floor.specs.Departments.{SameFor, Owned}
 use Rattle.floor.specs.declared.Share.{Share}
 use Rattle.floor.specs.declared.Floor.{Floor}
 use Rattle.floor.specs.declared.Stepped.{Stepped}
-use Rattle.floor.specs.declared.free.Lowest.{Lowest}
+use Rattle.floor.specs.declared.Lowest.{Lowest}
 use Rattle.floor.proofs.UseLaws.{share-own, use-of, of-use}
 use Rattle.floor.proofs.FreeLaws.{next-unused, next-full}
 use Rattle.floor.proofs.RefusalLaws.{begin-means, begin-holds, serve-means, serve-holds, deliver-means, deliver-holds, stop-means, stop-holds, leave-means, leave-holds, return-means, return-holds}

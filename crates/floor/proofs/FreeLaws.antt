@@ -19,7 +19,7 @@ use Rattle.floor.specs.Floors.{rowAt, ownerAt, usedOf, endOf}
 use Rattle.floor.specs.Free.{stillServed, allServed, freeIn, isFree, lowerIn, betterIn, noRow, freeBelow, nextRow}
 use Rattle.floor.specs.Claims.{Free, TakesRow, unused, free, none}
 use Rattle.floor.specs.declared.Floor.{Floor}
-use Rattle.floor.specs.declared.free.Lowest.{Lowest}
+use Rattle.floor.specs.declared.Lowest.{Lowest}
 
 -- one box more
 still-before : (t w : Bool) → stillServed t w ≡ true → t ≡ true

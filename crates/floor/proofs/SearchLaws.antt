@@ -17,7 +17,7 @@ use Rattle.attempts.specs.declared.Row.{Row}
 use Rattle.floor.specs.Floors.{rowAt, ownerAt, usedOf}
 use Rattle.floor.specs.Free.{betterIn, noRow, freeBelow, takenBy, startOf, firstOf}
 use Rattle.floor.specs.declared.Floor.{Floor}
-use Rattle.floor.specs.declared.free.Lowest.{Lowest}
+use Rattle.floor.specs.declared.Lowest.{Lowest}
 use Rattle.attempts.proofs.RowDepartments.{first-most}
 use Rattle.floor.proofs.FreeLaws.{next-unused, next-full}
 

@@ -12,7 +12,7 @@ use Rattle.attempts.specs.declared.State.{State}
 use Rattle.attempts.specs.declared.Row.{Row}
 use Rattle.floor.specs.Floors.{rowAt, ownerAt, usedOf, endOf}
 use Rattle.floor.specs.declared.Floor.{Floor}
-use Rattle.floor.specs.declared.free.Lowest.{Lowest}
+use Rattle.floor.specs.declared.Lowest.{Lowest}
 
 -- one box more
 unfoldable pub stillServed : (before waits : Bool) → Bool

@@ -11,9 +11,9 @@ use floor::Played;
 fn play_records(n: u8, m: u8, departments: &[u8], records: &[u8]) -> Played
     ensures { λ r. ⌜ r ≡ playedIn (newFloorOf n m (now (departments .entry)) .floor) (now (records .entry)) ⌝ }
 {
-    let made = floor::new_floor(n, m, departments);
+    let made = steps::new_floor(n, m, departments);
     let start = made.floor;
-    floor::run(start, records)
+    steps::run(start, records)
 }
 
 // The same with the department bytes of a file: where it has none all m stations are sails.
@@ -35,7 +35,7 @@ pub fn play(file: &[u8]) -> Played
     let header = drill_file::read_header(file);
     match header {
         Header::Refused(k) => {
-            let made = floor::new_floor(1, 1, &[0]);
+            let made = steps::new_floor(1, 1, &[0]);
             let floor = made.floor;
             Played {
                 floor,

@@ -176,7 +176,7 @@ fn drive(f: Floor, s: u8, round: u16, v: Suit, next: u8) -> Solo
     let reads = put_phase(&mut out, 0, boxes, f.n, Phase::Read, next);
     let end = put_phase(&mut out, reads, boxes, f.n, Phase::Write, next);
     let first = commands::encode(Command::Begin(s, round, v));
-    let ran = floor::drive(f, first, &out[..end]);
+    let ran = steps::drive(f, first, &out[..end]);
     let floor = ran.floor;
     let outcome = ran.outcome;
     Solo {
@@ -192,14 +192,14 @@ pub fn solo_finish(f: Floor, s: u8, v: Suit) -> Solo
     ensures number { λ r. ⌜ numberOf (r .outcome) ≡ soloNumber f s v ⌝ }
     ensures value { λ r. ⌜ valueOf (r .outcome) ≡ soloValue f s v ⌝ }
 {
-    if !floor::sound(f) {
+    if !steps::sound(f) {
         return turned_away(f, 6);
     }
     let d = department_at(f, s);
     let shares = f.shares;
-    let share = floor::share_of(shares, d);
+    let share = steps::share_of(shares, d);
     let round = round_above(share.highest, s);
-    let next = floor::next_row(f, d);
+    let next = steps::next_row(f, d);
     let e = refusal(f, s, round, next);
     if e != 0 {
         return turned_away(f, e);

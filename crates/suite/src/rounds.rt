@@ -41,7 +41,7 @@ fn shares(kind: u8, used: u8, rank: u32) -> Shares {
 // A new floor of one box and sixteen stations of one department, but for what each has begun.
 fn with_rank(kind: u8, used: u8, rank: u32) -> Floor {
     let told = [kind % 2; 16];
-    let made = floor::new_floor(1, 16, &told);
+    let made = steps::new_floor(1, 16, &told);
     let mut f = made.floor;
     f.shares = shares(kind, used, rank);
     f

@@ -85,7 +85,7 @@ pub(crate) fn play(words: &[u8], bytes: &[u8]) {
 fn step(f: Floor, r: [u8; 8]) -> Floor {
     say::record(r);
     text::print(b" -> ");
-    let s = floor::step(f, r);
+    let s = steps::step(f, r);
     let o = s.outcome;
     say::outcome(o);
     s.floor
@@ -121,7 +121,7 @@ fn tallies(f: Floor, count: u8, department: u8) -> Floor {
 
 // Hands bytes to `run` and says how many steps were accepted, and the refusal.
 fn run_of(f: Floor, bytes: &[u8]) -> Floor {
-    let played = floor::run(f, bytes);
+    let played = steps::run(f, bytes);
     text::fill(
         b"run of % bytes -> accepted %, ",
         &[bytes.len() as u64, played.accepted as u64],
@@ -180,7 +180,7 @@ fn highest(f: Floor, r: [u8; 8]) -> Floor {
 // The row that the next begin of a department takes.
 fn next_row(f: Floor, department: u8) -> Floor {
     let d = hand::department(department);
-    let row = floor::next_row(f, d);
+    let row = steps::next_row(f, d);
     text::pick(
         b"the next row of sails -> %|the next row of canvas -> %",
         say::code(d),
@@ -249,9 +249,9 @@ fn floor_of(file: &[u8]) -> NewFloor {
     let count = told(file);
     if count == 0 {
         let sails = [0u8; 16];
-        return floor::new_floor(n, m, text::up_to(&sails, m as usize));
+        return steps::new_floor(n, m, text::up_to(&sails, m as usize));
     }
-    floor::new_floor(n, m, text::up_to(behind_label(file), count as usize))
+    steps::new_floor(n, m, text::up_to(behind_label(file), count as usize))
 }
 
 // Says what the case is, and makes its new floor.
@@ -307,7 +307,7 @@ pub(crate) fn behind(words: &[u8], bytes: &[u8]) {
 
 // A new floor: its sizes, the refusal, and the stations that are of canvas. The bytes of a case: n, m and the department bytes.
 pub(crate) fn new_floor(words: &[u8], bytes: &[u8]) {
-    let made = floor::new_floor(
+    let made = steps::new_floor(
         text::byte_at(bytes, 0),
         text::byte_at(bytes, 1),
         text::from(bytes, 2),

@@ -1,8 +1,0 @@
-use Rattle.base.proofs.Tests.{picks}
-use Rattle.floor.specs.Floors.{departmentFrom}
-use Rattle.floor.proofs.department_from.Statement.{statement}
-use Rattle.floor.proofs.department_from.Tie as tie
-
-pub department-from-spec : {M : Type 1} → statement M
-unfolding departmentFrom
-department-from-spec = tie.close (tie.spec (λ c. search picks) (λ c. search picks))

@@ -1,8 +1,0 @@
-use Rattle.base.proofs.Tests.{picks}
-use Rattle.floor.specs.Free.{stillServed}
-use Rattle.floor.proofs.free.still_served.Statement.{statement}
-use Rattle.floor.proofs.free.still_served.Tie as tie
-
-pub still-served-spec : {M : Type 1} → statement M
-unfolding stillServed
-still-served-spec = tie.close (tie.spec (λ c. search picks) (λ c. search picks))

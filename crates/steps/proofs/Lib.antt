@@ -1,0 +1,1 @@
+-- Only the proofs of the functions stand here.
