@@ -1,6 +1,6 @@
 -- Wish 6 of document 02: the department bytes, "one byte a station: 0 sails, 1 canvas", and refusal 22.
 use Prim.Native.Nat.{ℕ}
-use mathlib.Core.Bool.{Bool, true, false, not}
+use mathlib.Core.Bool.{Bool, true, false}
 use mathlib.Core.List.{List, [], _∷_}
 use lib.Dec.{eqb, ltb}
 use lib.ListN.{length}

@@ -10,7 +10,7 @@ use lib.ListN.{length, getD}
 use Rattle.base.proofs.Choices.{on-true, on-false, by-test, both-false, passed}
 use Rattle.base.proofs.SizeLaws.{sizes-mean, sizes-hold}
 use Rattle.base.proofs.DepartmentLaws.{each-mean, each-hold}
-use Rattle.drill_file.specs.Claims.{Sized, Version, Printable, Labelled, Department, Departed, Recorded, Passed}
+use Rattle.drill_file.specs.Claims.{Sized, Version, Printable, Labelled, Departed, Recorded, Passed}
 use Rattle.drill_file.specs.DrillFile.{statedSize, versionOf, boxesOf, stationsOf, labelLength, labelPart, labelEnd, departmentsPart, recordsStart, afterHeader, outside, anyByte, wrongSize, unknownVersion, wrongVersion, wrongFloor, wrongByte, wrongLength, wrongLabel, wrongDepartments, wrongRun, wrongRecords, fileRefusal}
 
 size-means : (s : List ℕ) → wrongSize s ≡ false → Sized s

@@ -1,12 +1,12 @@
 -- What each department has of a floor: its share stored and read, and which rows are in use.
-use Prim.Native.Nat.{ℕ, _+_, _-_, _<_, _≤_}
+use Prim.Native.Nat.{ℕ, _-_, _<_}
 use native.Mathlib.Omega.{arith}
-use mathlib.Core.Path.{_≡_, refl, sym, ap, subst}
+use mathlib.Core.Path.{_≡_, refl, sym, subst}
 use Rattle.register.specs.declared.Department.{Department}
 use Rattle.register.specs.declared.Department.the-variants.{Sails, Canvas}
-use Rattle.attempts.specs.Rows.{rowDepartment, firstRow}
-use Rattle.attempts.proofs.RowDepartments.{first-most, row-number, row-least}
-use Rattle.floor.specs.Floors.{shareOf, usedOf, endOf, InUse, sharesWith, withShare}
+use Rattle.attempts.specs.Rows.{rowDepartment}
+use Rattle.attempts.proofs.RowDepartments.{first-most}
+use Rattle.floor.specs.Floors.{shareOf, endOf, InUse, sharesWith, withShare}
 use Rattle.floor.specs.Claims.{Sound}
 use Rattle.floor.specs.declared.Share.{Share}
 use Rattle.floor.specs.declared.Floor.{Floor}

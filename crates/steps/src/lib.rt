@@ -12,7 +12,6 @@ ghost use Rattle.base.specs.Choice.{if_then_else_};
 ghost use Rattle.base.specs.Records.{recordAt, recordsIn};
 ghost use Rattle.commands.specs.Commands.{commandOf};
 ghost use Rattle.commands.specs.Outcomes.{numberOf, valueOf};
-ghost use Rattle.attempts.specs.Rows.{firstRow};
 ghost use Rattle.register.specs.Register.{ofDepartment};
 ghost use Rattle.floor.specs.Floors.{departmentFrom, stationsTold, emptyFloor, newFloorOf};
 ghost use Rattle.floor.specs.Sound.{stationsBelow, shareSound, soundOf};

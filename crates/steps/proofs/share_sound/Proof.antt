@@ -1,6 +1,6 @@
 use borrow.Author.Needs.{needs}
 use native.Mathlib.Omega.{arith}
-use mathlib.Core.Path.{refl, ap, ap₂, _∙_}
+use mathlib.Core.Path.{refl}
 use Rattle.base.proofs.Choices.{on-true, on-false}
 use Rattle.base.proofs.Tests.{tests}
 use Rattle.attempts.proofs.RowDepartments.{first-most}

@@ -1,7 +1,5 @@
 use borrow.Author.Needs.{needs}
 use mathlib.Core.Path.{refl, _∙_}
-use Prim.Native.Nat.{ℕ}
-use Rattle.base.specs.Departments.{departmentsWrong}
 use Rattle.drill_file.specs.Writer.{wrongGiven}
 use Rattle.drill_file.proofs.writer.wrong_given.Statement.{statement}
 use Rattle.drill_file.proofs.writer.wrong_given.Tie as tie
