@@ -8,9 +8,11 @@
   stands there as it is, and so does a quotation: path, "text".
 - The list of definitions has the right files, stars, line counts and sums.
 - The lines of the box on a socket that docs/BOX-MAKERS.md shows are those of the program.
+- The lines and edits in docs/COSTS.md are the tree's, and the tree is within the gate's budget (costs.py).
 """
 import re
 import sys
+import costs
 from rests_on import TOP, WORD, believed, in_order
 
 GUARANTEES = "docs/GUARANTEES.md"
@@ -118,6 +120,8 @@ def check_shown():
 
 
 check_shown()
+found = list(costs.mistakes())
+check(not found, "docs/COSTS.md", "\n    ".join(found))
 decisions = (TOP / "docs/DECISIONS.md").read_text()
 for doc in DOCS:
     lines = (TOP / doc).read_text().split("\n")

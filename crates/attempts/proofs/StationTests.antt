@@ -1,13 +1,14 @@
 -- What the tests of a station's state say.
 use Prim.Native.Nat.{ℕ}
-use mathlib.Core.Path.{_≡_, refl, ap}
+use mathlib.Core.Path.{_≡_, refl, sym, ap, subst}
 use mathlib.Core.Bool.{true, false}
 use borrow.Author.Tests.{eqb-true, eq-eqb}
 use Rattle.requests.specs.Requests.{ofPhase}
 use Rattle.requests.specs.declared.Phase.{Phase}
 use Rattle.requests.specs.declared.Phase.the-variants.{Read, Write}
 use Rattle.base.proofs.Cases.{clash}
-use Rattle.attempts.specs.Stations.{isGone, isBusy, isReading, isWriting, isIn}
+use Rattle.attempts.specs.Stations.{isGone, isBusy, isReading, isWriting, isActive, isIn}
+use Rattle.attempts.specs.Claims.{InAttempt, reads, writes}
 use Rattle.attempts.specs.declared.State.{State}
 use Rattle.attempts.specs.declared.State.the-variants.{Idle, Reading, Writing, Decided, Gone}
 
@@ -31,6 +32,18 @@ reading-holds a = eq-eqb a a refl
 
 pub writing-holds : (a : ℕ) → isWriting (Writing a) a ≡ true
 writing-holds a = eq-eqb a a refl
+
+-- a station in the attempt a
+pub is-active : (p : State) (a : ℕ) → isActive p a ≡ true → InAttempt a p
+is-active Idle a e = clash e refl
+is-active (Reading x) a e = subst (λ (y : ℕ). InAttempt a (Reading y)) (sym (eqb-true x a e)) reads
+is-active (Writing x) a e = subst (λ (y : ℕ). InAttempt a (Writing y)) (sym (eqb-true x a e)) writes
+is-active (Decided x) a e = clash e refl
+is-active Gone a e = clash e refl
+
+pub active-holds : (p : State) (a : ℕ) → InAttempt a p → isActive p a ≡ true
+active-holds _ a reads = eq-eqb a a refl
+active-holds _ a writes = eq-eqb a a refl
 
 -- a station that is neither gone nor busy is idle
 pub is-idle : (p : State) → isGone p ≡ false → isBusy p ≡ false → p ≡ Idle

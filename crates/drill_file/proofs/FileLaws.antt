@@ -147,6 +147,10 @@ unfolding headerOf fileValues
 header-values s =
     by-test (λ (h : Header). headerValues h ≡ fileValues s) (eqb (fileRefusal s) 0) _ _ (λ t. on-true _ t refl) (λ t. on-false _ t refl)
 
+pub no-values : (s : List ℕ) → ¬ (fileRefusal s ≡ 0) → fileValues s ≡ record { boxes = 0; stations = 0; start = 0; count = 0 }
+unfolding fileValues
+no-values s n = sym (on-false _ (ne-eqb (fileRefusal s) 0 n) refl)
+
 -- so the answer has them
 pub header-said : (s : List ℕ) (h : Header) → h ≡ headerOf s → (h ≡ headerOf s) × ((headerRefusal h ≡ fileRefusal s) × (headerValues h ≡ fileValues s))
 header-said s h e = (e, (ap headerRefusal e ∙ header-number s, ap headerValues e ∙ header-values s))

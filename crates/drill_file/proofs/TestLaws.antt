@@ -1,16 +1,18 @@
 -- What it means that none of the refusals 1 to 5 and 22 applies to a file, both ways.
 use Prim.Native.Nat.{ℕ, zero, suc, _-_, _/_, _%_, _≤_, _<_}
-use mathlib.Core.Path.{_≡_, refl, sym, ap}
+use mathlib.Core.Path.{_≡_, refl, sym, ap, _∙_}
 use mathlib.Core.Bool.{Bool, true, false, not, true≢false}
 use mathlib.Core.List.{List, [], _∷_}
 use native.Mathlib.Omega.{arith}
 use borrow.Author.Tests.{ltb-false, eqb-true, not-false, le-ltb, eq-eqb}
 use lib.Dec.{eqb, ltb}
 use lib.ListN.{length, getD}
+use Rattle.base.specs.Choice.{if_then_else_}
+use Rattle.base.specs.Numbers.{sizesRight}
 use Rattle.base.proofs.Choices.{on-true, on-false, by-test, both-false, passed}
 use Rattle.base.proofs.SizeLaws.{sizes-mean, sizes-hold}
 use Rattle.base.proofs.DepartmentLaws.{each-mean, each-hold}
-use Rattle.drill_file.specs.Claims.{Sized, Version, Printable, Labelled, Departed, Recorded, Passed}
+use Rattle.drill_file.specs.Claims.{Sized, Version, Printable, Labelled, Departed, Recorded, Passed, FileTurned, gives-1, gives-2, gives-3, gives-4, gives-22, gives-5, accepts}
 use Rattle.drill_file.specs.DrillFile.{statedSize, versionOf, boxesOf, stationsOf, labelLength, labelPart, labelEnd, departmentsPart, recordsStart, afterHeader, outside, anyByte, wrongSize, unknownVersion, wrongVersion, wrongFloor, wrongByte, wrongLength, wrongLabel, wrongDepartments, wrongRun, wrongRecords, fileRefusal}
 
 size-means : (s : List ℕ) → wrongSize s ≡ false → Sized s
@@ -143,3 +145,22 @@ passed-accepted s p =
     sym (on-false _ (size-holds s (p .sized)) (on-false _ (version-holds (versionOf s) (p .version))
     (on-false _ (ap not (sizes-hold (boxesOf s) (stationsOf s) (p .floored)))
     (on-false _ (label-holds s (p .labelled)) (on-false _ (departments-hold s (p .departments)) (on-false _ (records-hold s (p .recorded)) refl))))))
+
+-- which refusal applies
+wrong-not : {P : Type 0} {t : Bool} → (P → t ≡ false) → t ≡ true → ¬ P
+wrong-not h e x = true≢false (sym e ∙ h x)
+
+pub file-turned : (s : List ℕ) → FileTurned s (fileRefusal s)
+unfolding fileRefusal wrongVersion wrongFloor
+file-turned s =
+    choose (wrongSize s) (λ e. gives-1 (wrong-not (size-holds s) e)) (λ e. let a = size-means s e in
+    choose (unknownVersion (versionOf s)) (λ e. gives-2 a (wrong-not (version-holds (versionOf s)) e)) (λ e. let b = version-means (versionOf s) e in
+    choose (not (sizesRight (boxesOf s) (stationsOf s))) (λ e. gives-3 a b (wrong-not (λ z. ap not (sizes-hold (boxesOf s) (stationsOf s) z)) e))
+    (λ e. let c = sizes-mean (boxesOf s) (stationsOf s) (not-false _ e) in
+    choose (wrongLabel s) (λ e. gives-4 a b c (wrong-not (label-holds s) e)) (λ e. let d = label-means s e in
+    choose (wrongDepartments s) (λ e. gives-22 a b c d (wrong-not (departments-hold s) e)) (λ e. let f = departments-mean s e in
+    choose (wrongRecords s) (λ e. gives-5 a b c d f (wrong-not (records-hold s) e))
+    (λ e. accepts (record { sized = a; version = b; floored = c; labelled = d; departments = f; recorded = records-mean s e })))))))
+  where
+    choose : (t : Bool) {x y : ℕ} → (t ≡ true → FileTurned s x) → (t ≡ false → FileTurned s y) → FileTurned s (if t then x else y)
+    choose t {x} {y} = by-test (FileTurned s) t x y

@@ -5,12 +5,13 @@ use native.Mathlib.Nat.{sub-zero}
 use mathlib.Core.Path.{_≡_, refl, sym, ap, _∙_}
 use mathlib.Core.Bool.{Bool, true, false, not}
 use mathlib.Core.List.{List, [], _∷_, _++_, flatten, append-assoc}
-use borrow.Author.Tests.{lt-ltb, le-ltb, le-leb, ltb-true, ltb-false, eqb-false, eq-eqb, ne-eqb, not-false}
+use borrow.Author.Tests.{lt-ltb, le-ltb, le-leb, ltb-true, ltb-false, eqb-false, eq-eqb, ne-eqb, not-true, not-false}
 use lib.Dec.{eqb, ltb}
 use lib.ListN.{length, getD, drop, set, length-append}
 use lib.Seq.{take-all, sets, sets-eq, length-sets}
 use Rattle.base.specs.Bytes.{bytes16, bytesPut}
 use Rattle.base.specs.Choice.{if_then_else_}
+use Rattle.base.specs.Numbers.{sizesRight}
 use Rattle.base.specs.Claims.{Sizes}
 use Rattle.base.specs.Records.{recordAt, recordsFrom, recordsIn}
 use Rattle.base.proofs.Cases.{by-cases}
@@ -20,8 +21,8 @@ use Rattle.base.proofs.PutLaws.{three-put}
 use Rattle.base.proofs.RecordLaws.{record-length, records-length, record-nth, records-joined}
 use Rattle.base.proofs.SizeLaws.{sizes-mean, sizes-hold}
 use Rattle.base.proofs.WritingLaws.{no-size, buffer-kept, size-is, buffer-is}
-use Rattle.drill_file.specs.Claims.{Printable, Department, PartsRight, WithoutKind6, Writable}
-use Rattle.drill_file.specs.DrillFile.{departmentsDue, wrongRun}
+use Rattle.drill_file.specs.Claims.{Printable, Department, PartsRight, WithoutKind6, Writable, WriteTurned, gives-2, gives-3, gives-4, gives-22, gives-5, gives-7, gives-18, accepts}
+use Rattle.drill_file.specs.DrillFile.{departmentsDue, unknownVersion, wrongRun}
 use Rattle.drill_file.specs.Layout.{bodyOf, fileOf}
 use Rattle.drill_file.specs.Writer.{DrillParts, fileFrom, wrongText, wrongGiven, hasKind, writeRefusal, writtenSize, writtenBuffer}
 use Rattle.drill_file.proofs.TestLaws.{version-means, version-holds, letters-mean, letters-hold, length-means, length-holds, run-means, run-holds}
@@ -188,6 +189,22 @@ module _ (room : ℕ) (p : DrillParts) where
 
   pub refused-none : Writable room p → writeRefusal room p ≡ 0
   refused-none w = refused-short (w .parts) (w .whole) (w .kinds) ∙ sym (on-false _ (le-ltb room (length (fileFrom p)) (w .fits)) refl)
+
+  -- which refusal applies
+  pub write-turned : WriteTurned room p (writeRefusal room p)
+  unfolding writeRefusal
+  write-turned =
+      choose (unknownVersion (p .version)) gives-2 (λ a.
+      choose (not (sizesRight (p .boxes) (p .stations))) (λ e. gives-3 a (not-true _ e)) (λ e. let b = not-false _ e in
+      choose (wrongText (p .label)) (gives-4 a b) (λ c.
+      choose (wrongGiven (p .version) (p .stations) (p .departments)) (gives-22 (a, b, c)) (λ d.
+      choose (wrongRun (length (p .run))) (gives-5 (a, b, c) d) (λ f.
+      choose (hasKind 6 (recordsIn (p .run))) (gives-7 ((a, b, c), d, f)) (λ k.
+      choose (ltb room (length (fileFrom p))) (λ e. gives-18 ((a, b, c), d, f) k (ltb-true room (length (fileFrom p)) e))
+      (λ e. accepts ((a, b, c), d, f) k (ltb-false room (length (fileFrom p)) e))))))))
+    where
+      choose : (t : Bool) {x y : ℕ} → (t ≡ true → WriteTurned room p x) → (t ≡ false → WriteTurned room p y) → WriteTurned room p (if t then x else y)
+      choose t {x} {y} = by-test (WriteTurned room p) t x y
 
   -- such parts are short
   pub short-label : Writable room p → length (p .label) ≤ 32

@@ -2,14 +2,16 @@
 -- `writer-claims` in proofs/Claims.
 use Prim.Native.Nat.{ℕ, _+_, _-_, _*_, _/_, _%_, _≤_, _<_}
 use mathlib.Core.Path.{_≡_}
+use mathlib.Core.Bool.{true, false}
 use mathlib.Core.List.{List, [], _∷_, _++_, flatten}
 use lib.ListN.{length, getD, take, drop}
 use Rattle.base.specs.Bytes.{Bytes, bytes16}
 use Rattle.base.specs.Records.{recordsFrom, recordsIn}
+use Rattle.base.specs.Numbers.{sizesRight}
 use Rattle.base.specs.Claims.{Sizes}
-use Rattle.drill_file.specs.DrillFile.{statedSize, versionOf, boxesOf, stationsOf, labelLength, labelPart, labelEnd, departmentsDue, departmentsPart, recordsStart, afterHeader, recordCount, fileRefusal, headerOf, headerRefusal, headerValues, fileValues, labelOf, departmentsOf, recordsOf}
+use Rattle.drill_file.specs.DrillFile.{statedSize, unknownVersion, wrongRun, versionOf, boxesOf, stationsOf, labelLength, labelPart, labelEnd, departmentsDue, departmentsPart, recordsStart, afterHeader, recordCount, fileRefusal, headerOf, headerRefusal, headerValues, fileValues, labelOf, departmentsOf, recordsOf}
 use Rattle.drill_file.specs.Layout.{fileOf}
-use Rattle.drill_file.specs.Writer.{DrillParts, partsGiven, fileFrom, writeRefusal, writtenSize, writtenBuffer}
+use Rattle.drill_file.specs.Writer.{DrillParts, partsGiven, fileFrom, wrongText, wrongGiven, hasKind, writeRefusal, writtenSize, writtenBuffer}
 use Rattle.drill_file.specs.declared.Header.the-variants.{Accepted}
 
 -- refusal 1; wish 6 of document 02: "refusal 1's limit is 32,822 bytes"
@@ -55,6 +57,16 @@ pub record Passed (s : List ℕ) : Type 0 where
   pub departments : Departed s
   pub recorded : Recorded s
 
+-- Which number turns a file back, for which cause, and that none before it applies: 1, 2, 3, 4, 22, 5, and 0 where none does.
+pub data FileTurned (s : List ℕ) : ℕ → Type 0 where
+  gives-1 : ¬ Sized s → FileTurned s 1
+  gives-2 : Sized s → ¬ Version (versionOf s) → FileTurned s 2
+  gives-3 : Sized s → Version (versionOf s) → ¬ Sizes (boxesOf s) (stationsOf s) → FileTurned s 3
+  gives-4 : Sized s → Version (versionOf s) → Sizes (boxesOf s) (stationsOf s) → ¬ Labelled s → FileTurned s 4
+  gives-22 : Sized s → Version (versionOf s) → Sizes (boxesOf s) (stationsOf s) → Labelled s → ¬ Departed s → FileTurned s 22
+  gives-5 : Sized s → Version (versionOf s) → Sizes (boxesOf s) (stationsOf s) → Labelled s → Departed s → ¬ Recorded s → FileTurned s 5
+  accepts : Passed s → FileTurned s 0
+
 pub record Values (s : List ℕ) (n m start count : ℕ) : Type 0 where
   pub accepted : fileRefusal s ≡ 0
   pub boxes : n ≡ boxesOf s
@@ -93,9 +105,11 @@ pub record FileClaims : Type 0 where
   -- a file is accepted exactly where none of the refusals 1 to 5 and 22 applies
   pub passes : (s : List ℕ) → fileRefusal s ≡ 0 → Passed s
   pub accepted : (s : List ℕ) → Passed s → fileRefusal s ≡ 0
-  -- the header's answer gives this number, and these values
+  pub turned : (s : List ℕ) → FileTurned s (fileRefusal s)
+  -- the header's answer gives this number, and these values, 0 where it is refused
   pub number : (s : List ℕ) → headerRefusal (headerOf s) ≡ fileRefusal s
   pub given : (s : List ℕ) → headerValues (headerOf s) ≡ fileValues s
+  pub no-values : (s : List ℕ) → ¬ (fileRefusal s ≡ 0) → fileValues s ≡ record { boxes = 0; stations = 0; start = 0; count = 0 }
   pub values : (s : List ℕ) (n m start count : ℕ) → headerOf s ≡ Accepted n m start count → Values s n m start count
   -- an accepted file is exactly its parts, in the documented layout
   pub layout : (s : List ℕ) → Bytes s → (n m start count : ℕ) → headerOf s ≡ Accepted n m start count → LaidOut s n m start count
@@ -127,6 +141,24 @@ pub record Writable (room : ℕ) (p : DrillParts) : Type 0 where
   pub whole : length (p .run) % 8 ≡ 0
   pub kinds : WithoutKind6 (recordsIn (p .run))
   pub fits : length (fileFrom p) ≤ room
+
+-- Which number turns the writer back, for which test, and that none before it applies: 2, 3, 4, 22, 5, 7, 18, and 0 where none does.
+module _ (room : ℕ) (p : DrillParts) where
+  abbrev pub Labelling : Type 0
+  Labelling = (unknownVersion (p .version) ≡ false) × (sizesRight (p .boxes) (p .stations) ≡ true) × (wrongText (p .label) ≡ false)
+
+  abbrev pub Running : Type 0
+  Running = Labelling × (wrongGiven (p .version) (p .stations) (p .departments) ≡ false) × (wrongRun (length (p .run)) ≡ false)
+
+  pub data WriteTurned : ℕ → Type 0 where
+    gives-2 : unknownVersion (p .version) ≡ true → WriteTurned 2
+    gives-3 : unknownVersion (p .version) ≡ false → sizesRight (p .boxes) (p .stations) ≡ false → WriteTurned 3
+    gives-4 : unknownVersion (p .version) ≡ false → sizesRight (p .boxes) (p .stations) ≡ true → wrongText (p .label) ≡ true → WriteTurned 4
+    gives-22 : Labelling → wrongGiven (p .version) (p .stations) (p .departments) ≡ true → WriteTurned 22
+    gives-5 : Labelling → wrongGiven (p .version) (p .stations) (p .departments) ≡ false → wrongRun (length (p .run)) ≡ true → WriteTurned 5
+    gives-7 : Running → hasKind 6 (recordsIn (p .run)) ≡ true → WriteTurned 7
+    gives-18 : Running → hasKind 6 (recordsIn (p .run)) ≡ false → room < length (fileFrom p) → WriteTurned 18
+    accepts : Running → hasKind 6 (recordsIn (p .run)) ≡ false → length (fileFrom p) ≤ room → WriteTurned 0
 
 -- the parts that a file has for its reader; the run is what stands from the start of the records on
 abbrev pub partsOf : (s : List ℕ) → DrillParts
@@ -167,6 +199,7 @@ pub record WriterClaims : Type 0 where
   -- a file is written exactly where none of 2, 3, 4, 22, 5, 7 and 18 applies
   pub writable : (buffer : List ℕ) (p : DrillParts) → writeRefusal (length buffer) p ≡ 0 → Writable (length buffer) p
   pub writes : (buffer : List ℕ) (p : DrillParts) → Writable (length buffer) p → writeRefusal (length buffer) p ≡ 0
+  pub turned : (room : ℕ) (p : DrillParts) → WriteTurned room p (writeRefusal room p)
   pub filled : (buffer : List ℕ) (p : DrillParts) → writeRefusal (length buffer) p ≡ 0 → Filled buffer p
   pub untouched : (buffer : List ℕ) (p : DrillParts) → ¬ (writeRefusal (length buffer) p ≡ 0) → Untouched buffer p
   pub back : (buffer : List ℕ) (p : DrillParts) → writeRefusal (length buffer) p ≡ 0 → ReadBack (fileIn buffer p) p

@@ -254,7 +254,7 @@ empty-unused n m l a h = none (rowDepartment a) (row-least (rowDepartment a) a r
     none Sails k h = omega arith
     none Canvas k h = omega arith
 
-told-length : (l : List ℕ) (k : ℕ) → length (stationsTold l k) ≡ 16
+pub told-length : (l : List ℕ) (k : ℕ) → length (stationsTold l k) ≡ 16
 unfolding stationsTold
 told-length l zero = refl
 told-length l (suc k) = length-set (stationsTold l k) k _ ∙ told-length l k

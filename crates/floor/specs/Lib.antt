@@ -7,3 +7,4 @@ pub mod Step
 pub mod Runs
 pub mod Claims
 pub mod Departments
+pub mod NewFloors

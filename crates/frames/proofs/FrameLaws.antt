@@ -1,20 +1,20 @@
 -- A frame and its message: each determines the other, also where the frame stands at the start of a longer input.
 use Prim.Native.Nat.{ℕ, zero, suc, _+_, _*_, _≤_, _<_}
 use native.Mathlib.Omega.{arith}
-use mathlib.Core.Path.{_≡_, refl, sym, ap, ap₂, _∙_}
-use mathlib.Core.Bool.{true, false, true≢false}
+use mathlib.Core.Path.{_≡_, refl, sym, ap, ap₂, subst, _∙_}
+use mathlib.Core.Bool.{Bool, true, false, true≢false}
 use mathlib.Core.List.{List, [], _∷_, _++_, append-assoc}
-use borrow.Author.Tests.{le-leb, lt-ltb, le-ltb, ltb-false, eqb-true}
-use lib.Dec.{eqb}
+use borrow.Author.Tests.{le-leb, leb-true, lt-ltb, le-ltb, ltb-false, eqb-true}
+use lib.Dec.{eqb, ltb}
 use lib.ListN.{length, getD, take, drop, length-append, take-append-drop}
 use lib.Seq.{drop-cons, drop-drop, take-add, drop-append-seam}
 use Rattle.base.specs.Bytes.{Bytes, bytes16, bytes32, wordAt}
 use Rattle.base.specs.Choice.{if_then_else_}
 use Rattle.base.proofs.ByteLaws.{bytes-below, bytes16-of-word, word32-of-bytes, word-at-bytes}
-use Rattle.base.proofs.Cases.{by-cases}
+use Rattle.base.proofs.Cases.{clash, by-cases}
 use Rattle.base.proofs.Choices.{on-true, on-false, chosen, by-test, passed}
 use Rattle.base.proofs.WritingLaws.{no-size, buffer-kept, size-is, bytes-stand, behind-kept, room-kept}
-use Rattle.frames.specs.Claims.{Whole, FieldsFit, ReadAs, frameIn, Filled, Untouched, WrittenAgain, joined, AllRight, Reads, none, next}
+use Rattle.frames.specs.Claims.{Whole, FieldsFit, ReadAs, frameIn, Filled, Untouched, WrittenAgain, joined, AllRight, Reads, none, next, Wrong, read-of-0, write-of-0}
 use Rattle.frames.specs.Messages.{kindOf, fieldsOf, firstOf, secondOf, spelt, bodyOf, frameOf, wrongMessage, known, fieldsIn}
 use Rattle.frames.specs.Reader.{statedLength, versionIn, kindByte, endOf, fieldAt, checked, formed, parsed, refusalIn, frameRefusal, behindStart, behindOf}
 use Rattle.frames.specs.Writer.{writeRefusal, writtenSize, writtenBuffer}
@@ -203,6 +203,24 @@ unfolding formed known if_then_else_
 formed-unknown kind first second u =
     sym (on-false _ (unknown-not kind 1 u refl) (on-false _ (unknown-not kind 2 u refl) (on-false _ (unknown-not kind 3 u refl)
     (on-false _ (unknown-not kind 4 u refl) (on-false _ (unknown-not kind 5 u refl) (on-false _ (unknown-not kind 6 u refl) refl))))))
+
+-- the kinds are 1 to 6
+pub known-means : (kind : ℕ) → known kind ≡ true → (1 ≤ kind) × (kind ≤ 6)
+unfolding known
+known-means kind = by-test (λ (t : Bool). t ≡ true → (1 ≤ kind) × (kind ≤ 6)) (ltb kind 1) _ _ (λ _ e. clash e refl) (λ h e. (ltb-false kind 1 h, leb-true kind 6 e))
+
+-- what turns a message away
+pub wrong-means : (m : Message) → wrongMessage m ≡ true → Wrong m
+wrong-means (ReadRequest r) e = subst (λ (x : ℕ). Wrong (ReadRequest x)) (sym (eqb-true r 0 e)) read-of-0
+wrong-means (WriteRequest r v) e = subst (λ (x : ℕ). Wrong (WriteRequest x v)) (sym (eqb-true r 0 e)) write-of-0
+wrong-means (ReadAnswer w v) e = clash e refl
+wrong-means Outranked e = clash e refl
+wrong-means Taken e = clash e refl
+wrong-means NotTaken e = clash e refl
+
+pub wrong-holds : (m : Message) → Wrong m → wrongMessage m ≡ true
+wrong-holds _ read-of-0 = refl
+wrong-holds _ write-of-0 = refl
 
 -- ---- an accepted input, byte by byte
 module _ (s : List ℕ) (b : Bytes s) where

@@ -6,9 +6,10 @@ use mathlib.Core.List.{List, [], _∷_, _++_}
 use lib.ListN.{length, take, drop}
 use Rattle.base.specs.Bytes.{Bytes}
 use Rattle.frames.specs.Messages.{kindOf, fieldsOf, firstOf, secondOf, frameOf, wrongMessage, known, fieldsIn}
-use Rattle.frames.specs.Reader.{statedLength, versionIn, kindByte, endOf, fieldAt, checked, formed, parsed, behindStart, behindOf}
+use Rattle.frames.specs.Reader.{statedLength, versionIn, kindByte, endOf, fieldAt, checked, formed, kindIn, firstIn, secondIn, parsed, behindStart, behindOf}
 use Rattle.frames.specs.Writer.{writeRefusal, writtenSize, writtenBuffer}
 use Rattle.frames.specs.declared.Message.{Message}
+use Rattle.frames.specs.declared.Message.the-variants.{ReadRequest, WriteRequest}
 use Rattle.frames.specs.declared.Parsed.the-variants.{Refused, Accepted}
 
 -- an input that 19 does not turn away: it has a length, which does not pass it, is long enough for a kind, and is the kind's own
@@ -64,6 +65,11 @@ pub data Reads : (s : List ℕ) (ms : List Message) (t : List ℕ) → Type 0 wh
   none : {s : List ℕ} → Reads s [] s
   next : {s t : List ℕ} {m : Message} {ms : List Message} → parsed s ≡ Accepted m → Reads (behindOf s) ms t → Reads s (m ∷ ms) t
 
+-- 21 of a message: "a rank .. of 0 in a request", whatever its revision (wish 7)
+pub data Wrong : Message → Type 0 where
+  read-of-0 : Wrong (ReadRequest 0)
+  write-of-0 : {revision : ℕ} → Wrong (WriteRequest 0 revision)
+
 pub record FrameClaims : Type 0 where
   -- "two messages never share a frame", and no frame begins another: what stands behind is the same too
   pub apart : (m o : Message) → frameOf m ≡ frameOf o → m ≡ o
@@ -77,8 +83,13 @@ pub record FrameClaims : Type 0 where
   pub gives-message : (s : List ℕ) → Whole s → versionIn s ≡ 1 → parsed s ≡ formed (kindByte s) (fieldAt s 4) (fieldAt s 8)
   -- 21 by kind and fields: an unknown kind, or a message that is turned away
   pub unknown : (kind first second : ℕ) → known kind ≡ false → formed kind first second ≡ Refused 21
+  pub known-means : (kind : ℕ) → known kind ≡ true → (1 ≤ kind) × (kind ≤ 6)
+  pub wrong-means : (m : Message) → wrongMessage m ≡ true → Wrong m
+  pub wrong-holds : (m : Message) → Wrong m → wrongMessage m ≡ true
   pub named : (m : Message) → formed (kindOf m) (firstOf m) (secondOf m) ≡ checked m
   pub zero : (m : Message) (t : List ℕ) → wrongMessage m ≡ true → parsed (frameOf m ++ t) ≡ Refused 21
+  -- what is refused has no kind and no fields
+  pub refused-blank : (k : ℕ) → (kindIn (Refused k) ≡ 0) × (firstIn (Refused k) ≡ 0) × (secondIn (Refused k) ≡ 0)
   -- what is written reads back, with anything behind it, and hands back exactly that
   pub back : (m : Message) (t : List ℕ) → wrongMessage m ≡ false → ReadAs (frameOf m ++ t) m t
   -- an accepted input is the frame of its message and the part behind it, and the message is one that the writer takes

@@ -1,7 +1,7 @@
 -- What is claimed of a solo finish, proved.
 use Rattle.solo.specs.Claims.{SoloClaims}
 use Rattle.solo.proofs.PlanLaws.{plan-begins}
-use Rattle.solo.proofs.FrontLaws.{solo-number, solo-value}
+use Rattle.solo.proofs.FrontLaws.{solo-turned, solo-number, solo-value}
 use Rattle.solo.proofs.RoundLaws.{round-smallest}
 use Rattle.solo.proofs.CountLaws.{solo-counted}
 use Rattle.solo.proofs.LawfulLaws.{step-lawful, new-lawful}
@@ -11,6 +11,7 @@ pub solo-claims : SoloClaims
 solo-claims = record {
   smallest = round-smallest;
   begins = plan-begins;
+  refusal = solo-turned;
   number = solo-number;
   value = solo-value;
   counted = solo-counted;

@@ -2,14 +2,18 @@
 use Prim.Native.Nat.{ℕ, _≤_, _<_}
 use native.Mathlib.Omega.{arith}
 use mathlib.Core.Path.{_≡_, refl, sym, _∙_}
-use mathlib.Core.Bool.{true, false}
+use mathlib.Core.Bool.{Bool, true, false}
 use lib.ListN.{length}
-use borrow.Author.Tests.{leb-false, lt-leb, ltb-false, le-ltb, eq-eqb, ne-eqb}
+use lib.Dec.{leb, ltb}
+use borrow.Author.Tests.{leb-true, leb-false, lt-leb, ltb-true, ltb-false, le-ltb, eq-eqb, ne-eqb}
 use Rattle.suits.specs.declared.Suit.{Suit}
 use Rattle.base.specs.Numbers.{quorum}
 use Rattle.base.proofs.Choices.{on-true, on-false, by-test, passed, choice-ap}
 use Rattle.commands.specs.Outcomes.{numberOf, valueOf}
+use Rattle.base.specs.Choice.{if_then_else_}
 use Rattle.attempts.specs.Stations.{isGone, isBusy}
+use Rattle.attempts.specs.declared.State.{State}
+use Rattle.attempts.proofs.StationTests.{is-idle}
 use Rattle.floor.specs.Floors.{stationAt}
 use Rattle.floor.specs.Sound.{soundOf}
 use Rattle.floor.specs.Runs.{runOf}
@@ -18,6 +22,7 @@ use Rattle.floor.specs.declared.Floor.{Floor}
 use Rattle.floor.specs.declared.Until.the-variants.{End}
 use Rattle.solo.specs.Plan.{roundOf, answering, beginOf, exchangesOf}
 use Rattle.solo.specs.Solo.{frontRefusal, soloRefusal, turnedAway, ofRun, soloOf, soloNumber, soloValue}
+use Rattle.solo.specs.Claims.{TurnedBy, unsound, no-station, gone, busy, no-round, no-row, few-boxes, none}
 use Rattle.solo.specs.declared.Solo.{Solo}
 
 -- no refusal from 8 on applies
@@ -53,6 +58,25 @@ module _ (f : Floor) (s round : ℕ) where
   front-holds d =
       sym (on-false _ (lt-leb _ _ (d .station)) (on-false _ (d .here) (on-false _ (d .free)
       (on-false _ (le-ltb _ _ (d .left)) (on-false _ (lt-leb _ _ (d .row)) (on-false _ (le-ltb _ _ (d .boxes)) refl))))))
+
+-- which refusal applies
+pub solo-turned : (f : Floor) (s : ℕ) → TurnedBy f s (soloRefusal f s)
+unfolding soloRefusal frontRefusal
+solo-turned f s =
+    choose (soundOf f) (λ z.
+    choose (leb (f .m) s) (λ h. no-station z (leb-true (f .m) s h)) (λ h. let m = leb-false (f .m) s h in
+    choose (isGone p) (λ g. gone z m g) (λ g.
+    choose (isBusy p) (λ b. busy z m b) (λ b. let i = is-idle p g b in
+    choose (ltb 65535 (roundOf f s)) (λ o. no-round z m i (ltb-true 65535 (roundOf f s) o)) (λ o. let k = ltb-false 65535 (roundOf f s) o in
+    choose (leb 128 (rowTaken f s)) (λ w. no-row z m i k (leb-true 128 (rowTaken f s) w)) (λ w. let l = leb-false 128 (rowTaken f s) w in
+    choose (ltb (length (answering f)) (quorum (f .n))) (λ q. few-boxes z m i k l (ltb-true _ _ q))
+    (λ q. none z (record { station = m; idle = i; round = k; row = l; boxes = ltb-false _ _ q })))))))) unsound
+  where
+    p : State
+    p = stationAt f s .state
+
+    choose : (t : Bool) {x y : ℕ} → (t ≡ true → TurnedBy f s x) → (t ≡ false → TurnedBy f s y) → TurnedBy f s (if t then x else y)
+    choose t {x} {y} = by-test (TurnedBy f s) t x y
 
 module _ (f : Floor) (s : ℕ) (v : Suit) where
   -- "a refused solo finish takes 0 steps", and leaves the floor

@@ -2,7 +2,7 @@
 use Prim.Native.Nat.{ℕ, suc, _+_, _*_, _≤_, _<_}
 use mathlib.Core.Path.{_≡_}
 use mathlib.Core.Logic.{_⊎_}
-use mathlib.Core.Bool.{false}
+use mathlib.Core.Bool.{true, false}
 use mathlib.Core.List.{List}
 use lib.ListN.{length}
 use Rattle.suits.specs.declared.Suit.{Suit}
@@ -11,17 +11,19 @@ use Rattle.commands.specs.Commands.{commandOf}
 use Rattle.commands.specs.Outcomes.{numberOf, valueOf, isRefused}
 use Rattle.commands.specs.declared.Command.the-variants.{Begin}
 use Rattle.commands.specs.declared.Outcome.the-variants.{Aborted, Decided}
+use Rattle.attempts.specs.Stations.{isGone, isBusy}
 use Rattle.attempts.specs.declared.State.the-variants.{Idle}
 use Rattle.register.specs.declared.Department.{Department}
 use Rattle.attempts.specs.Rows.{rowDepartment}
 use Rattle.floor.specs.Floors.{stationAt, rowAt, registerAt, highestOf, InUse, newFloorOf}
+use Rattle.floor.specs.Sound.{soundOf}
 use Rattle.floor.specs.Effects.{rowTaken}
 use Rattle.floor.specs.Step.{stepOf}
 use Rattle.floor.specs.Runs.{floorAt, saidAt}
 use Rattle.floor.specs.Claims.{Sound, Lengths}
 use Rattle.floor.specs.declared.Floor.{Floor}
 use Rattle.solo.specs.Plan.{highestBegun, roundOf, answering, beginOf, planOf}
-use Rattle.solo.specs.Solo.{turnedAway, soloOf, soloNumber, soloValue}
+use Rattle.solo.specs.Solo.{soloRefusal, turnedAway, soloOf, soloNumber, soloValue}
 use Rattle.solo.specs.declared.Solo.{Solo}
 
 -- "the smallest round, at least 1, whose rank passes" the highest rank begun in the station's department, whatever the rows say
@@ -56,6 +58,17 @@ pub record Ready (f : Floor) (s : ℕ) : Type 0 where
   pub row : rowTaken f s < 128
   pub boxes : quorum (f .n) ≤ length (answering f)
 
+-- Which number turns a solo finish back, for which cause, and that none before it applies: "6, 8 to 12, 15", 0 where none does.
+pub data TurnedBy (f : Floor) (s : ℕ) : ℕ → Type 0 where
+  unsound : soundOf f ≡ false → TurnedBy f s 6
+  no-station : soundOf f ≡ true → f .m ≤ s → TurnedBy f s 8
+  gone : soundOf f ≡ true → s < f .m → isGone (stationAt f s .state) ≡ true → TurnedBy f s 9
+  busy : soundOf f ≡ true → s < f .m → isBusy (stationAt f s .state) ≡ true → TurnedBy f s 10
+  no-round : soundOf f ≡ true → s < f .m → stationAt f s .state ≡ Idle → 65535 < roundOf f s → TurnedBy f s 11
+  no-row : soundOf f ≡ true → s < f .m → stationAt f s .state ≡ Idle → roundOf f s ≤ 65535 → 128 ≤ rowTaken f s → TurnedBy f s 12
+  few-boxes : soundOf f ≡ true → s < f .m → stationAt f s .state ≡ Idle → roundOf f s ≤ 65535 → rowTaken f s < 128 → length (answering f) < quorum (f .n) → TurnedBy f s 15
+  none : soundOf f ≡ true → Ready f s → TurnedBy f s 0
+
 -- it says decided, with some revision, after 4q + 1 steps
 pub record DecidesAlone (f : Floor) (d : Solo) : Type 0 where
   pub revision : Suit
@@ -76,6 +89,7 @@ pub record SoloClaims : Type 0 where
   pub smallest : (f : Floor) (s : ℕ) → Smallest f s (roundOf f s)
   -- "whatever revision it offers": its first step is the begin of this station with this revision
   pub begins : (f : Floor) (s : ℕ) (v : Suit) → commandOf (beginOf f s v) ≡ Begin s (roundOf f s) v
+  pub refusal : (f : Floor) (s : ℕ) → TurnedBy f s (soloRefusal f s)
   -- document 01's number and value of what it says
   pub number : (f : Floor) (s : ℕ) (v : Suit) → numberOf (soloOf f s v .outcome) ≡ soloNumber f s v
   pub value : (f : Floor) (s : ℕ) (v : Suit) → valueOf (soloOf f s v .outcome) ≡ soloValue f s v
