@@ -4,7 +4,7 @@
 - source: the functions of crates/*/src that it calls, found by their names, have no `/`, no `%` and no call whose name speaks of a
   division. Contracts may divide: they are no code. Each function that the module calls is among those found.
 - module: the LLVM module that the toolchain makes of a program that calls `solo_finish`, before it is optimised. The program is made
-  here and is not proved. `rt try` compiles it with a toolchain of links, in which `clang` is a script that keeps the module it is given.
+  here and is not proved (tests/build.py).
 - machine: that module as machine code, for x86-64 and for a Cortex-M0, which has no division instruction, so that a division there is a
   call of a library's routine; each as it stands and optimised. What may be called outside the module is listed in OUTSIDE.
 
@@ -20,6 +20,8 @@ import sys
 
 HERE = pathlib.Path(__file__).resolve().parent
 TOP = HERE.parents[1]
+sys.path.insert(0, str(TOP / "tests"))
+import build
 OUT = TOP / "target" / "division-test"
 START = "solo::solo_finish"
 # What a walk that lost its way would not find.
@@ -128,20 +130,6 @@ class Source:
         return reached(calls, START), wrong
 
 
-def toolchain():
-    """The toolchain's folder, and in it that of the tools for this machine."""
-    home = pathlib.Path(subprocess.run(["rt", "doc"], check=True, capture_output=True, text=True).stdout.strip()).parents[1]
-    return home, pathlib.Path("on") / os.uname().machine
-
-
-def links(source, target, *but):
-    """A folder of links to what another has, but for some names."""
-    target.mkdir(parents=True)
-    for item in source.iterdir():
-        if item.name not in but:
-            (target / item.name).symlink_to(item)
-
-
 PROGRAM = """fn main() {
     let made = steps::new_floor(3, 2, &[0, 1]);
     let f = made.floor;
@@ -149,38 +137,11 @@ PROGRAM = """fn main() {
     let done = solo::solo_finish(f, 1, v);
 }
 """
-CLANG = """#!/bin/sh
-for word in "$@"; do
-    case $word in *.bc) [ -e "{kept}" ] || cp "$word" "{kept}" ;; esac
-done
-exec "{clang}" "$@"
-"""
 
 
 def module_of(tree, out):
-    """The module of a program that calls `solo_finish`, as text, and the clang that reads it."""
-    shutil.rmtree(out, ignore_errors=True)
-    home, own = toolchain()
-    links(home, out / "linked", "on")
-    links(home / own, out / "linked" / own, "toolchain")
-    links(home / own / "toolchain", out / "linked" / own / "toolchain", "bin")
-    links(home / own / "toolchain" / "bin", out / "linked" / own / "toolchain" / "bin", "clang")
-    clang, kept = home / own / "toolchain" / "bin" / "clang", out / "module.bc"
-    keeps = out / "linked" / own / "toolchain" / "bin" / "clang"
-    keeps.write_text(CLANG.format(kept=kept, clang=clang))
-    keeps.chmod(0o755)
-    links(tree / "crates", out / "crates")
-    listed = (tree / "crates.txt").read_text()
-    (out / "crates.txt").write_text(listed.rstrip("\n") + "\nfinish: suits floor steps solo\n")
-    (out / "crates" / "finish" / "src").mkdir(parents=True)
-    (out / "crates" / "finish" / "src" / "main.rt").write_text(PROGRAM)
-    (out / "crates" / "finish" / "stdout").write_text("")
-    done = subprocess.run(["rt", "try", "finish"], cwd=out, env={**os.environ, "RATTLE_HOME": str(out / "linked")}, capture_output=True, text=True)
-    if done.returncode or not kept.exists():
-        raise RuntimeError(f"no module was made\n{done.stdout}{done.stderr}")
-    text = out / "module.ll"
-    subprocess.run([clang, "-x", "ir", kept, "-S", "-emit-llvm", "-Xclang", "-disable-llvm-passes", "-o", text], check=True)
-    return text.read_text(), clang
+    """The module of a program that calls `solo_finish`, as text."""
+    return build.as_text(build.lowered(tree, out, "finish", PROGRAM, "suits floor steps solo"))
 
 
 def check_module(text):
@@ -216,14 +177,14 @@ def instructions(text, comment):
     return lines
 
 
-def check_machine(text, clang, out, target, level):
+def check_machine(text, out, target, level):
     """The functions that the machine code reaches, and what is wrong; `solo_finish` is the one that can be called from outside."""
     text = re.sub(r"^target .*\n|\"target-cpu\"=\"[^\"]*\"", "", text, flags=re.M)
     text = re.sub(rf"^define internal (.*@\"{START}\")", r"define \1", text, flags=re.M)
     text = re.sub(r"^define (?!internal)(.*@main\()", r"define internal \1", text, flags=re.M)
     code, listing = out / "machine.ll", out / f"{target}{level}.s"
     code.write_text(text)
-    subprocess.run([clang, f"--target={target}", level, "-w", "-S", "-x", "ir", code, "-o", listing], check=True)
+    subprocess.run([build.clang(), f"--target={target}", level, "-w", "-S", "-x", "ir", code, "-o", listing], check=True)
     lines = instructions(listing.read_text(), "#" if target.startswith("x86") else "@ ")
     mentioned = lambda line: set(re.findall(r"[A-Za-z_][\w:.$]*", line))
     calls = {name: {word for line in body for word in mentioned(line)} & lines.keys() for name, body in lines.items()}
@@ -246,13 +207,13 @@ def check_machine(text, clang, out, target, level):
 def check(tree, out):
     """How many functions are reached, and what is wrong."""
     in_source, wrong = Source(tree).check()
-    text, clang = module_of(tree, out)
+    text = module_of(tree, out)
     in_module, more = check_module(text)
     wrong += more
     wrong += [f"source: {name}, which the module has, is not found" for name in sorted(in_module - in_source)]
     wrong += [f"{kind}: {name} is not reached" for kind, found in (("source", in_source), ("module", in_module)) for name in sorted(KNOWN - found)]
     for target, level in BUILDS:
-        found, more = check_machine(text, clang, out, target, level)
+        found, more = check_machine(text, out, target, level)
         wrong += more
         if level == "-O0":
             wrong += [f"machine: {target}: {name} is not reached" for name in sorted(in_module - found)]
@@ -263,7 +224,7 @@ def faulty(tree, changes):
     """A copy of the source with a fault in it."""
     shutil.rmtree(tree, ignore_errors=True)
     for crate in (TOP / "crates").iterdir():
-        links(crate, tree / "crates" / crate.name, "src")
+        build.links(crate, tree / "crates" / crate.name, "src")
         shutil.copytree(crate / "src", tree / "crates" / crate.name / "src")
     shutil.copy(TOP / "crates.txt", tree)
     for name, old, new in changes:
