@@ -1,7 +1,7 @@
 //! What the files of a comparison reached of boxes that go away and come back (document 02, wish 8).
 use crate::generate::on_the_way;
-use crate::reference::{decode, Answer, Attempt, Department, Floor, Held, Parts, Phase, Played, Refusal, Register, Request, Said};
-use crate::reference::{State, Step, DEPARTMENTS, ROWS};
+use reference::{decode, Answer, Attempt, Department, Floor, Held, Parts, Phase, Played, Refusal, Register, Request, Said};
+use reference::{State, Step, DEPARTMENTS, ROWS};
 use crate::Coverage;
 use std::collections::{BTreeMap, BTreeSet};
 

@@ -1,21 +1,23 @@
-//! compare PROGRAM COUNT SEED FOLDER [coverage|CLAIM|claims]: runs PROGRAM on COUNT generated drill files and compares what it prints with
-//! the reference, byte for byte; on each played file it also looks for demand 3's safety claims, within each department, in the reference's
-//! trace and lines, and that a box that comes back is as it went. Some files are run again: each version 2 file with accepted steps of both
-//! departments twice, its accepted steps without those of one of them, where the stations of the other have to print what they printed;
-//! each file with boxes put away once, its accepted steps without these stops and returns, where all stations have to; and each file with
-//! kind 6 once, with kind 8 in its place. The first file on which something differs is left in FOLDER. With the name of a CLAIM that is the
-//! first file on which the reference breaks it, with `claims` the first on which it breaks any; PROGRAM is not run then, and what the files
-//! reached is not counted.
+//! compare PROGRAM COUNT SEED FOLDER [coverage|record|CLAIM|claims]: runs PROGRAM on COUNT generated drill files and compares what it prints
+//! with the reference, byte for byte; on each played file it also looks for demand 3's safety claims, within each department, in the
+//! reference's trace and lines, and that a box that comes back is as it went. Some files are run again: each version 2 file with accepted
+//! steps of both departments twice, its accepted steps without those of one of them, where the stations of the other have to print what they
+//! printed; each file with boxes put away once, its accepted steps without these stops and returns, where all stations have to; and each file
+//! with kind 6 once, with kind 8 in its place. The first file on which something differs is left in FOLDER. With the name of a CLAIM that is
+//! the first file on which the reference breaks it, with `claims` the first on which it breaks any; PROGRAM is not run then, and what the
+//! files reached is not counted. With `record` PROGRAM is not run either: it is a file, to which each file that a program would be run on
+//! goes, with what it has to print.
+//! compare RECORDED: compares what the reference prints with such a file.
 mod away;
 mod generate;
-mod reference;
 
 use reference::{decode, Answer, Attempt, Department, Floor, Parts, Phase, Played, Request, Said, State, Step, DEPARTMENTS, ROWS};
 use std::collections::{BTreeMap, BTreeSet};
-use std::io::Write;
+use std::io::{BufRead, Read, Write};
 use std::path::Path;
 use std::process::{Command, Stdio};
 use std::sync::atomic::{AtomicU64, Ordering};
+use std::sync::Mutex;
 use std::time::Duration;
 
 /// What the files of a comparison reached: how many files for each thing reached.
@@ -24,14 +26,25 @@ type Coverage = BTreeMap<String, usize>;
 /// How the lines of the coverage start that 4,000 files have to reach, each of them.
 const HAVE_TO: [&str; 2] = [WITHDRAWAL, away::AWAY];
 
+/// What is compared with the reference: a program that is run, or none, where each file and what is to be printed are kept.
+enum Program {
+    Runs(String),
+    Records(Mutex<Vec<(Vec<u8>, String)>>),
+}
+
 fn main() {
     let words: Vec<String> = std::env::args().collect();
-    let (program, folder) = (&words[1], Path::new(&words[4]));
+    if words.len() == 2 {
+        return replay(Path::new(&words[1])).expect("RECORDED can be read");
+    }
+    let folder = Path::new(&words[4]);
+    let records = words.get(5).is_some_and(|word| word == "record");
+    let program = &if records { Program::Records(Mutex::default()) } else { Program::Runs(words[1].clone()) };
     let count: u64 = words[2].parse().expect("COUNT is a number");
     let seed: u64 = words[3].parse().expect("SEED is a number");
     assert_eq!(reference::report(&document_example(7, 5)), DOCUMENT_LINES, "the reference does not print document 01's example");
     let workers = std::thread::available_parallelism().map_or(1, |n| n.get()) as u64;
-    let claim = words.get(5).filter(|word| *word != "coverage");
+    let claim = words.get(5).filter(|word| *word != "coverage" && *word != "record");
     for (records, lines) in [(5, "station 0 decided 16 0\nend 5 0\n"), (4, "station 0 writing 16 none\nend 4 0\n")] {
         let printed = reference::report(&document_example(0, records));
         let wanted = format!("panel luff boxes 1 stations 1\n{lines}");
@@ -77,7 +90,9 @@ fn main() {
         println!("drill: {claim}: broken by none of {count} files");
         return;
     }
-    if words.get(5).is_some() {
+    if let Program::Records(all) = program {
+        record(Path::new(&words[1]), &mut all.lock().unwrap()).expect("what is recorded can be written");
+    } else if words.get(5).is_some() {
         for (what, files) in &reached {
             println!("{files:6} {what}");
         }
@@ -107,6 +122,48 @@ fn document_example(revision: u8, records: usize) -> Vec<u8> {
 /// What document 01 says that its example prints.
 const DOCUMENT_LINES: &str = "panel luff boxes 1 stations 1\nstation 0 decided 16 7\nend 5 0\n";
 
+/// Writes what was recorded, the shorter half of the files first, since most faults show there and sooner; of the other half the longest
+/// first, for the limits. Before each file and each text stands its length.
+fn record(path: &Path, all: &mut [(Vec<u8>, String)]) -> std::io::Result<()> {
+    all.sort_by(|(a, _), (b, _)| (a.len(), a).cmp(&(b.len(), b)));
+    let half = all.len() / 2;
+    all[half..].reverse();
+    let mut out = std::io::BufWriter::new(std::fs::File::create(path)?);
+    for part in all.iter().flat_map(|(file, expected)| [file.as_slice(), expected.as_bytes()]) {
+        out.write_all(&(part.len() as u32).to_be_bytes())?;
+        out.write_all(part)?;
+    }
+    out.flush()
+}
+
+/// Compares the reference, which may be another than the one that was there then, with what was recorded.
+fn replay(path: &Path) -> std::io::Result<()> {
+    let mut recorded = std::io::BufReader::new(std::fs::File::open(path)?);
+    let mut next = || {
+        let mut size = [0; 4];
+        recorded.read_exact(&mut size)?;
+        let mut part = vec![0; u32::from_be_bytes(size) as usize];
+        recorded.read_exact(&mut part).map(|_| (part, recorded.fill_buf().is_ok_and(|left| left.is_empty())))
+    };
+    std::panic::set_hook(Box::new(|_| {}));
+    for number in 0.. {
+        let ((file, _), (expected, last)) = (next()?, next()?);
+        let why = match std::panic::catch_unwind(|| reference::report(&file)) {
+            Ok(printed) => same(printed.as_bytes(), &String::from_utf8_lossy(&expected)).err(),
+            Err(_) => Some("the program ended with a panic".to_string()),
+        };
+        if let Some(why) = why {
+            println!("drill: file {number} recorded: {why}");
+            std::process::exit(1);
+        }
+        if last {
+            println!("drill: {} recorded files compared", number + 1);
+            break;
+        }
+    }
+    Ok(())
+}
+
 fn leave(folder: &Path, number: u64, file: &[u8], why: &str) {
     let path = folder.join(format!("{number}.drill"));
     let said = std::fs::create_dir_all(folder).and_then(|_| std::fs::write(&path, file));
@@ -133,7 +190,7 @@ fn in_trace(claim: String) -> String {
     format!("the reference's own trace breaks {claim}")
 }
 
-fn compare(program: &str, file: &[u8], number: u64, reached: &mut Coverage) -> Result<(), String> {
+fn compare(program: &Program, file: &[u8], number: u64, reached: &mut Coverage) -> Result<(), String> {
     cover_head(file, reached);
     let pieces = number % 64 == 5;
     let parts = match reference::parts(file) {
@@ -184,10 +241,16 @@ fn with_kind_8(file: &[u8], parts: &Parts) -> Option<Vec<u8>> {
     Some(other).filter(|other| other != file)
 }
 
-fn prints(program: &str, file: &[u8], pieces: bool, expected: &str) -> Result<(), String> {
-    let printed = run(program, file, pieces)?;
+fn prints(program: &Program, file: &[u8], pieces: bool, expected: &str) -> Result<(), String> {
+    match program {
+        Program::Runs(program) => same(&run(program, file, pieces)?, expected),
+        Program::Records(all) => Ok(all.lock().unwrap().push((file.to_vec(), expected.to_string()))),
+    }
+}
+
+fn same(printed: &[u8], expected: &str) -> Result<(), String> {
     if printed != expected.as_bytes() {
-        return Err(format!("expected\n{expected}printed\n{}", String::from_utf8_lossy(&printed)));
+        return Err(format!("expected\n{expected}printed\n{}", String::from_utf8_lossy(printed)));
     }
     Ok(())
 }

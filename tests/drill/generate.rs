@@ -3,7 +3,7 @@
 //! parts for the writer. The same seed and the same number always give the same.
 #![allow(dead_code)]
 
-use crate::reference::{Attempt, Department, Floor, Phase, Register, Request, Said, State, Step, DEPARTMENTS, ROWS};
+use reference::{Attempt, Department, Floor, Phase, Register, Request, Said, State, Step, DEPARTMENTS, ROWS};
 
 /// xorshift64*, so that the files depend on nothing but the seed.
 pub struct Random(u64);

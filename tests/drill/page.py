@@ -1,14 +1,17 @@
-"""page.py PAGE PROGRAM: runs the commands of a page, its blocks marked sh, in one shell, with PROGRAM for target/bin/drill. Each has to print
-what stands in the block behind it, or nothing where no block stands there."""
+"""page.py PAGE PROGRAM LIBRARY: runs the commands of a page, its blocks marked sh, in one shell, with PROGRAM for target/bin/drill and LIBRARY
+for target/staticlib/libdrill_file.a. Each has to print what stands in the block behind it, or nothing where no block stands there."""
 import pathlib
 import re
 import subprocess
 import sys
 
-page, program = pathlib.Path(sys.argv[1]), sys.argv[2]
+page, program, library = pathlib.Path(sys.argv[1]), sys.argv[2], sys.argv[3]
 END = "===== a command of the page ends here ====="
 blocks = re.findall(r"^```sh\n(.*?)^```\n(?:\n```\n(.*?)^```\n)?", page.read_text(), re.M | re.S)
-script = "".join(f"{command.replace('target/bin/drill', program)}echo '{END}'\n" for command, _ in blocks)
+script = "".join(f"{command}echo '{END}'\n" for command, _ in blocks)
+for there, here in ("target/bin/drill", program), ("target/staticlib/libdrill_file.a", library):
+    assert there in script, f"{page.name} does not name {there}"
+    script = script.replace(there, here)
 done = subprocess.run(["bash", "-euo", "pipefail", "-c", script], stdout=subprocess.PIPE, text=True, cwd=page.parent.parent)
 printed = done.stdout.split(END + "\n")
 for (command, wanted), there in zip(blocks, printed):

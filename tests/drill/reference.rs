@@ -1,6 +1,6 @@
-//! A second implementation of the program `drill` and of the writer, written from documents 01 and 02 alone. It reads a drill file from
-//! standard input and prints what document 01 says. The comparisons in compare.rs and write.rs use it as a module; the first also looks
-//! at the trace that it keeps.
+//! A second implementation of the program `drill` and of the writer, written from documents 01 and 02 alone. As a program it reads a drill
+//! file from standard input and prints what document 01 says. The comparisons in compare.rs and write.rs use it as a library; the first also
+//! looks at the trace that it keeps.
 #![allow(dead_code)]
 
 use std::collections::BTreeMap;

@@ -1,8 +1,7 @@
-//! write COUNT SEED FOLDER [FILE ..]: holds the writer, called as C calls it, against the reference. Each FILE and each of COUNT generated
-//! drill files that is accepted is taken apart and written again: without kind 6 it is the same file, with kind 6 it is turned back with 7.
-//! Then 25 x COUNT sets of parts and buffers are written. Compared are the refusal, the size, and every byte of the buffer and about it.
+//! write COUNT SEED FOLDER [FILE ..]: holds the writer, called as C calls it, against the reference. 25 x COUNT sets of parts and buffers are
+//! written. Then each FILE and each of COUNT generated drill files that is accepted is taken apart and written again: without kind 6 it is
+//! the same file, with kind 6 it is turned back with 7. Compared are the refusal, the size, and every byte of the buffer and about it.
 mod generate;
-mod reference;
 
 use generate::Handed;
 use std::collections::BTreeMap;
@@ -134,13 +133,6 @@ fn main() {
     let folder = Path::new(&words[3]);
     let shipped = words[4..].iter().map(|path| (path.clone(), std::fs::read(path).expect("a FILE can be read")));
     let generated = (0..count).map(|number| (format!("file {number} of seed {seed}"), generate::file(seed, number)));
-    let (mut same, mut turned_back) = (0, 0);
-    for (name, file) in shipped.chain(generated) {
-        match again(&file) {
-            Ok(came) => (same, turned_back) = (same + (came == Again::Same) as u64, turned_back + (came == Again::TurnedBack) as u64),
-            Err(why) => fail(folder, &name, &file, &why),
-        }
-    }
     let mut times: BTreeMap<u32, u64> = BTreeMap::new();
     for number in 0..25 * count {
         let h = generate::handed(seed, number);
@@ -155,6 +147,13 @@ fn main() {
     // each answer came, about one time in a hundred or more often
     for refusal in [0, 2, 3, 4, 22, 5, 7, 18] {
         assert!(times.get(&refusal).is_some_and(|t| 100 * t >= 25 * count), "refusal {refusal} came too seldom: {times:?}");
+    }
+    let (mut same, mut turned_back) = (0, 0);
+    for (name, file) in shipped.chain(generated) {
+        match again(&file) {
+            Ok(came) => (same, turned_back) = (same + (came == Again::Same) as u64, turned_back + (came == Again::TurnedBack) as u64),
+            Err(why) => fail(folder, &name, &file, &why),
+        }
     }
     println!("write: {same} files written again, {turned_back} turned back for kind 6, {} sets of parts compared", 25 * count);
 }
