@@ -10,12 +10,13 @@ use Rattle.register.specs.Register.{takes}
 use Rattle.register.specs.declared.Register.{Register}
 use Rattle.register.specs.declared.WriteDone.{WriteDone}
 use Rattle.register.proofs.RegisterLaws.{write-taken, write-answers}
-use Rattle.attempts.specs.Rows.{requestsOf, rowServed, registerServed, rowHeard}
-use Rattle.attempts.specs.Claims.{OtherKept, AttemptClaims}
+use Rattle.attempts.specs.Rows.{requestsOf, rowServed, registerServed, rowHeard, issued}
+use Rattle.attempts.specs.Claims.{OtherKept, WriteIssued, AttemptClaims}
+use Rattle.suits.specs.declared.Suit.{Suit}
 use Rattle.attempts.specs.declared.Row.{Row}
 use Rattle.attempts.proofs.Answers.{best-found, best-at-quorum, revision-either}
 use Rattle.attempts.proofs.WaitingLaws.{new-row-waits, issued-waits}
-use Rattle.attempts.proofs.StationTests.{is-active, active-holds}
+use Rattle.attempts.proofs.StationTests.{is-active, active-holds, is-gone, is-busy}
 
 -- the two phases are two
 module _ {A : Type 0} where
@@ -40,6 +41,10 @@ heard Write w b = refl
 stored : (w : Row) (x : Register) → takes x (w .rank) ≡ true → registerServed Write w x ≡ record { read = x .read; write = w .rank; value = w .written }
 stored w x h = ap (λ (d : WriteDone). d .register) (write-taken x (w .rank) (w .written) h)
 
+issues : (w : Row) (v : Suit) (n : ℕ) → WriteIssued v w (issued w v n)
+unfolding issued
+issues w v n = record { station = refl; rank = refl; offer = refl; written = refl; read = refl }
+
 pub attempt-claims : AttemptClaims
 attempt-claims = record {
   best = best-found;
@@ -53,7 +58,10 @@ attempt-claims = record {
   stored = stored;
   heard-keeps = heard-keeps;
   heard = heard;
+  issues = issues;
   unused = (refl, refl);
   active = is-active;
   active-holds = active-holds;
+  gone = is-gone;
+  busy = is-busy;
 }

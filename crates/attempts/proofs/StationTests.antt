@@ -8,7 +8,7 @@ use Rattle.requests.specs.declared.Phase.{Phase}
 use Rattle.requests.specs.declared.Phase.the-variants.{Read, Write}
 use Rattle.base.proofs.Cases.{clash}
 use Rattle.attempts.specs.Stations.{isGone, isBusy, isReading, isWriting, isActive, isIn}
-use Rattle.attempts.specs.Claims.{InAttempt, reads, writes}
+use Rattle.attempts.specs.Claims.{Busy, reading, writing, decided, InAttempt, reads, writes}
 use Rattle.attempts.specs.declared.State.{State}
 use Rattle.attempts.specs.declared.State.the-variants.{Idle, Reading, Writing, Decided, Gone}
 
@@ -52,6 +52,20 @@ is-idle (Reading x) g e = clash refl e
 is-idle (Writing x) g e = clash refl e
 is-idle (Decided x) g e = clash refl e
 is-idle Gone g e = clash refl g
+
+pub is-gone : (p : State) → isGone p ≡ true → p ≡ Gone
+is-gone Idle e = clash e refl
+is-gone (Reading x) e = clash e refl
+is-gone (Writing x) e = clash e refl
+is-gone (Decided x) e = clash e refl
+is-gone Gone e = refl
+
+pub is-busy : (p : State) → isBusy p ≡ true → Busy p
+is-busy Idle e = clash e refl
+is-busy (Reading x) e = reading
+is-busy (Writing x) e = writing
+is-busy (Decided x) e = decided
+is-busy Gone e = clash e refl
 
 -- a station in a phase of attempt a
 pub is-in : (f : Phase) (p : State) (a : ℕ) → isIn f p a ≡ true → p ≡ ofPhase f (Reading a) (Writing a)

@@ -14,12 +14,12 @@ use Rattle.register.specs.Register.{isHeld, rmwRead, takes}
 use Rattle.register.specs.declared.Register.{Register}
 use Rattle.suits.specs.declared.Suit.{Suit}
 use Rattle.attempts.specs.Rows.{answer0, unusedRow, requestsOf, newRow, rowServed, registerServed, rowHeard, noBest, bestFrom, bestOf, revisionFrom, issued}
-use Rattle.attempts.specs.Stations.{isActive}
+use Rattle.attempts.specs.Stations.{isGone, isBusy, isActive}
 use Rattle.attempts.specs.declared.rows.Best.{Best}
 use Rattle.attempts.specs.declared.Answer.{Answer}
 use Rattle.attempts.specs.declared.Row.{Row}
 use Rattle.attempts.specs.declared.State.{State}
-use Rattle.attempts.specs.declared.State.the-variants.{Reading, Writing}
+use Rattle.attempts.specs.declared.State.the-variants.{Reading, Writing, Decided, Gone}
 
 -- The best answer among the first k boxes of a mask: there is none, or it is the slot of a box b in the mask; no box in it has a
 -- higher rank, and of equal rank none has a lower number.
@@ -38,6 +38,20 @@ pub record OtherKept (p : Phase) (w z : Row) : Type 0 where
   pub written : z .written ≡ w .written
   pub read : p ≡ Write → z .read ≡ w .read
   pub write : p ≡ Read → z .write ≡ w .write
+
+-- The write of the row is issued, with all else as it was.
+pub record WriteIssued (v : Suit) (w z : Row) : Type 0 where
+  pub station : z .station ≡ w .station
+  pub rank : z .rank ≡ w .rank
+  pub offer : z .offer ≡ w .offer
+  pub written : z .written ≡ v
+  pub read : z .read ≡ w .read
+
+-- "reading, writing or decided": refusal 10
+pub data Busy : State → Type 0 where
+  reading : {a : ℕ} → Busy (Reading a)
+  writing : {a : ℕ} → Busy (Writing a)
+  decided : {a : ℕ} → Busy (Decided a)
 
 -- The station is in the attempt a.
 pub data InAttempt (a : ℕ) : State → Type 0 where
@@ -62,8 +76,13 @@ pub record AttemptClaims : Type 0 where
   -- "it becomes received"
   pub heard-keeps : (p : Phase) (w : Row) (b : ℕ) → OtherKept p w (rowHeard p w b)
   pub heard : (p : Phase) (w : Row) (b : ℕ) → requestsOf p (rowHeard p w b) ≡ receivedFrom (requestsOf p w) b
+  -- "The write carries the attempt's own rank"
+  pub issues : (w : Row) (v : Suit) (n : ℕ) → WriteIssued v w (issued w v n)
   -- "places not in use are 0"
   pub unused : (unusedRow .station ≡ 0) × (unusedRow .rank ≡ 0)
   -- wish 5: a station is in an attempt exactly where it "reads or writes in it"
   pub active : (p : State) (a : ℕ) → isActive p a ≡ true → InAttempt a p
   pub active-holds : (p : State) (a : ℕ) → InAttempt a p → isActive p a ≡ true
+  -- a station that is gone is nothing else, and one that is busy neither idle nor gone
+  pub gone : (p : State) → isGone p ≡ true → p ≡ Gone
+  pub busy : (p : State) → isBusy p ≡ true → Busy p

@@ -105,9 +105,9 @@ module _ {A O : Type 0} {n : ℕ} {R : Rule A O} (k : Run n R) where
     pub rank : k .at i .row row .rank ≡ r
 
   pub record Safety : Type 0 where
-    -- of two values decided one follows the other (Theorem 1, Agreement; with equality they are one)
+    -- of two values decided one follows the other; with equality they are one (Theorem 1)
     pub agreement : (i j : ℕ) (u v : A) → DecidedAt u i → DecidedAt v j → R .Follows u v ⊎ R .Follows v u
-    -- a value decided is made of offers begun before (Theorem 1, Validity), and by the rule from its attempt's own
+    -- a value decided is made of offers begun before (Theorem 1), and by the rule from its attempt's own
     pub validity : (i : ℕ) (v : A) → DecidedAt v i → OfferedBefore v i
     pub made : (i : ℕ) (v : A) (d : DecidedAt v i) → Made R (k .at i .row (d .row) .offer) v
     -- before an attempt aborts, a rank above its own was served at a box (Property 2, Non-Triviality)
