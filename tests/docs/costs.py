@@ -58,8 +58,9 @@ def write(log):
     page = PAGE.read_text()
     check = {name: int(s) for name, s in re.findall(r"^rt: (\w+) proved \((\d+) s\)", log, re.M)}
     edits = {}
-    for name, s in re.findall(r"^rt: must-fail (\w+)/\w+: refused.*?(\d+) s\)$", log, re.M):
-        edits[name] = edits.get(name, 0) + int(s)
+    for name, label, s in re.findall(r"^rt: must-fail (\w+)/(\w+): refused.*?(\d+) s\)$", log, re.M):
+        if (TOP / "crates" / name / "must-fail" / f"{label}.edit").exists():
+            edits[name] = edits.get(name, 0) + int(s)
     rows = [(f"`{name}`", *numbers, check[name], edits.get(name, 0)) for name, numbers in counted()]
     rows.append(("all", *map(sum, zip(*(row[1:] for row in rows)))))
     text = "".join("| " + " | ".join(map(str, row)) + " |\n" for row in rows)
