@@ -25,7 +25,7 @@ import build
 OUT = TOP / "target" / "division-test"
 START = "solo::solo_finish"
 # What a walk that lost its way would not find.
-KNOWN = {"solo::round_above", "solo::put_record", "base::majority", "base::split32", "commands::encode", "commands::decode", "steps::run_sound", "steps::next_sound", "steps::free::better", "steps::free::all_served", "steps::share_of", "attempts::rows::waits_at", "attempts::rows::department_of", "register::box_with", "parts::kinds::change", "parts::begin::larger", "requests::masks::count_below", "register::rmw_write"}
+KNOWN = {"plans::round_above", "plans::put_exchange", "base::put_bytes", "base::majority", "base::split32", "commands::encode", "commands::decode", "steps::run_sound", "runs::record_at", "steps::next_sound", "steps::free::better", "steps::free::all_served", "steps::share_of", "places::lower", "attempts::rows::waits_at", "attempts::rows::department_of", "register::box_with", "parts::kinds::change", "parts::begin::larger", "requests::masks::count_below", "register::rmw_write"}
 # Calls of no function of the source: the number of ones of a number, and the length of a slice.
 BUILT_IN = {"u16::count_ones", "len"}
 WORDS = {"if", "while", "match", "return", "loop", "else", "let", "in", "as"}

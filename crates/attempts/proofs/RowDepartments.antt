@@ -42,9 +42,6 @@ row-least Canvas a e = elim (decLt a 64) [
 pub row-number : (d : Department) (a : ℕ) → rowDepartment a ≡ d → a ≡ firstRow d + (a - firstRow d)
 row-number d a e = omega (arith, row-least d a e)
 
-pub row-within : (a u : ℕ) → u ≤ 64 → a < firstRow (rowDepartment a) + u → a < 128
-row-within a u h l = omega (arith, first-most (rowDepartment a))
-
 pub row-most : (d : Department) (a : ℕ) → rowDepartment a ≡ d → a < 128 → a < firstRow d + 64
 row-most Sails a e h = elim (decLt a 64) [
   | yes l ↦ omega arith

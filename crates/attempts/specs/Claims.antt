@@ -81,8 +81,8 @@ pub record AttemptClaims : Type 0 where
   -- "places not in use are 0"
   pub unused : (unusedRow .station ≡ 0) × (unusedRow .rank ≡ 0)
   -- wish 5: a station is in an attempt exactly where it "reads or writes in it"
-  pub active : (p : State) (a : ℕ) → isActive p a ≡ true → InAttempt a p
-  pub active-holds : (p : State) (a : ℕ) → InAttempt a p → isActive p a ≡ true
+  pub active : (st : State) (a : ℕ) → isActive st a ≡ true → InAttempt a st
+  pub active-holds : (st : State) (a : ℕ) → InAttempt a st → isActive st a ≡ true
   -- a station that is gone is nothing else, and one that is busy neither idle nor gone
-  pub gone : (p : State) → isGone p ≡ true → p ≡ Gone
-  pub busy : (p : State) → isBusy p ≡ true → Busy p
+  pub gone : (st : State) → isGone st ≡ true → st ≡ Gone
+  pub busy : (st : State) → isBusy st ≡ true → Busy st

@@ -11,5 +11,6 @@ pub mod WritingLaws
 pub mod SizeLaws
 pub mod DepartmentLaws
 pub mod QuorumLaws
+pub mod Positions
 pub mod MaskLaws
 pub mod Claims

@@ -37,11 +37,11 @@ records-length zero s p = refl
 records-length (suc k) s p = ap suc (records-length k s (p + 8))
 
 -- the i-th of them
-pub record-nth : (k : ℕ) (s : List ℕ) (p i : ℕ) → i < k → getD (recordsFrom k s p) i [] ≡ recordAt s (p + 8 * i)
+pub record-nth : (k : ℕ) (s : List ℕ) (p i : ℕ) (d : List ℕ) → i < k → getD (recordsFrom k s p) i d ≡ recordAt s (p + 8 * i)
 unfolding recordsFrom
-record-nth zero s p i h = absurd (omega arith)
-record-nth (suc k) s p zero h = ap (recordAt s) (omega arith)
-record-nth (suc k) s p (suc i) h = record-nth k s (p + 8) i (omega arith) ∙ ap (recordAt s) (omega arith)
+record-nth zero s p i d h = absurd (omega arith)
+record-nth (suc k) s p zero d h = ap (recordAt s) (omega arith)
+record-nth (suc k) s p (suc i) d h = record-nth k s (p + 8) i d (omega arith) ∙ ap (recordAt s) (omega arith)
 
 -- the joined records are the bytes they were cut from
 pub records-joined : (k : ℕ) (s : List ℕ) (p : ℕ) → p + 8 * k ≤ length s → flatten (recordsFrom k s p) ≡ take (8 * k) (drop p s)

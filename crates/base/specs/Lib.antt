@@ -6,5 +6,6 @@ pub mod Writing
 pub mod Records
 pub mod Part
 pub mod Quorum
+pub mod Positions
 pub mod Mask
 pub mod Claims

@@ -1,6 +1,9 @@
 -- Document 01, "Steps": "Each accepted step says one thing that came of it"; "A refusal gives its number."
 use Prim.Native.Nat.{ℕ}
 use mathlib.Core.Bool.{Bool, true, false}
+use mathlib.Core.List.{List, [], _∷_}
+use lib.ListN.{getD}
+use Rattle.suits.specs.Suits.{revisionsOf}
 use Rattle.commands.specs.declared.Outcome.{Outcome}
 use Rattle.commands.specs.declared.Outcome.the-variants.{Begun, Served, Received, Aborted, WriteIssued, Decided, Stopped, Gone, Back, Refused}
 
@@ -17,20 +20,24 @@ numberOf (Gone s) = 0
 numberOf (Back b) = 0
 numberOf (Refused k) = k
 
--- Document 01's value for each case: "begun, served, received or aborted with the attempt; write issued or decided with the
+-- Document 01's values for each case: "begun, served, received or aborted with the attempt; write issued or decided with the
 -- revision; stopped with the box; gone with the station". Wish 8 of document 02: "Kind 8 says stopped and kind 9 back, with the box." A
--- refusal has none.
+-- refusal has none; a later outcome may have several.
+abbrev pub valuesOf : (o : Outcome) → List ℕ
+valuesOf (Begun a) = a ∷ []
+valuesOf (Served a) = a ∷ []
+valuesOf (Received a) = a ∷ []
+valuesOf (Aborted a) = a ∷ []
+valuesOf (WriteIssued v) = revisionsOf v
+valuesOf (Decided v) = revisionsOf v
+valuesOf (Stopped b) = b ∷ []
+valuesOf (Gone s) = s ∷ []
+valuesOf (Back b) = b ∷ []
+valuesOf (Refused k) = []
+
+-- the first of them, 0 where there is none
 abbrev pub valueOf : (o : Outcome) → ℕ
-valueOf (Begun a) = a
-valueOf (Served a) = a
-valueOf (Received a) = a
-valueOf (Aborted a) = a
-valueOf (WriteIssued v) = v .r0
-valueOf (Decided v) = v .r0
-valueOf (Stopped b) = b
-valueOf (Gone s) = s
-valueOf (Back b) = b
-valueOf (Refused k) = 0
+valueOf o = getD (valuesOf o) 0 0
 
 abbrev pub isRefused : (o : Outcome) → Bool
 isRefused (Begun a) = false

@@ -17,7 +17,7 @@ use Rattle.attempts.specs.declared.Station.{Station}
 use Rattle.floor.specs.Floors.{stationAt}
 use Rattle.floor.specs.declared.Floor.{Floor}
 use Rattle.floor.specs.declared.Played.{Played}
-use Rattle.floor.proofs.Keeps.{new-sound}
+use Rattle.floor.proofs.EmptyFloors.{new-sound}
 use Rattle.floor.proofs.ListLaws.{sound-at}
 use Rattle.drill_file.specs.DrillFile.{fileRefusal, labelOf, recordsOf}
 use Rattle.drill_file.proofs.LayoutLaws.{accepted-parts}

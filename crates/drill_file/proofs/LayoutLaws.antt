@@ -78,7 +78,7 @@ module _ (s : List ℕ) (e : fileRefusal s ≡ 0) where
         each = p .departments .each;
         few = rw many (p .recorded .few);
         eights = λ i h.
-            ap length (record-nth (recordCount s) s (recordsStart s) i (rw many at h)) ∙ record-length s (recordsStart s + 8 * i);
+            ap length (record-nth (recordCount s) s (recordsStart s) i [] (rw many at h)) ∙ record-length s (recordsStart s + 8 * i);
       })
 
   -- the bytes from the version on

@@ -162,7 +162,7 @@ module _ (room : ℕ) (p : DrillParts) where
           due = y .0;
           each = y .1;
           few = rw many (r .1);
-          eights = λ i h. ap length (record-nth (length (p .run) / 8) (p .run) 0 i (rw many at h)) ∙ record-length (p .run) (0 + 8 * i);
+          eights = λ i h. ap length (record-nth (length (p .run) / 8) (p .run) 0 i [] (rw many at h)) ∙ record-length (p .run) (0 + 8 * i);
         };
         whole = r .0;
         kinds = kinds-mean 6 (recordsIn (p .run)) (k .0);

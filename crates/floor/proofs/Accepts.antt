@@ -14,7 +14,8 @@ use Rattle.requests.proofs.RequestLaws.{verdict-yes}
 use Rattle.base.proofs.Cases.{clash}
 use Rattle.floor.specs.Floors.{rowAt, ownerAt}
 use Rattle.attempts.specs.Stations.{isReading, isWriting, isIn}
-use Rattle.floor.specs.Claims.{Sound, CanBegin, CanServe, CanDeliver}
+use Rattle.floor.specs.Soundness.{Sound}
+use Rattle.floor.specs.Tests.{CanBegin, CanServe, CanDeliver}
 use Rattle.attempts.specs.Rows.{revisionOf}
 use Rattle.floor.specs.Effects.{heardRow, stepped, rowTaken, afterBegin, afterServe, afterIssue, afterDecision, afterAbort, receivedOn, verdictOn, heardOn, deliveredOn}
 use Rattle.floor.specs.Step.{applyOf}

@@ -22,13 +22,16 @@ use Rattle.attempts.specs.Rows.{rowDepartment, requestsOf, registerServed}
 use Rattle.floor.specs.Floors.{boxAt, rowAt, departmentAt}
 use Rattle.floor.specs.Effects.{rowTaken, servedBy, withAway}
 use Rattle.floor.specs.Step.{applyOf}
-use Rattle.floor.specs.Claims.{Sound, Lengths, Meaning, Waits, WaitsOn, AwayMove, away-kept, away-put, away-brought, StandingMove, stands-kept, stands-new, stands-served, stands-received, stands-issued}
+use Rattle.floor.specs.Soundness.{Sound, Lengths}
+use Rattle.floor.specs.Moves.{Waits, WaitsOn, AwayMove, away-kept, away-put, away-brought}
 use Rattle.floor.specs.declared.Floor.{Floor}
 use Rattle.floor.specs.declared.Stepped.{Stepped}
 use Rattle.floor.proofs.UseLaws.{use-of, in-use-most}
 use Rattle.floor.proofs.FreeLaws.{free-means, next-own, next-free}
 use Rattle.floor.proofs.StepCases.{StepCase, turned, began, served, heard, issued, decided, aborted, stopped, left, returned, apply-case}
-use Rattle.floor.proofs.Keeps.{apply-sizes, box-stored}
+use Rattle.floor.proofs.Keeps.{apply-sizes}
+use Rattle.floor.proofs.StoredLaws.{box-stored}
+use Rattle.floor.proofs.Moves.{StandingMove, stands-kept, stands-new, stands-served, stands-received, stands-issued}
 use Rattle.floor.proofs.RowLaws.{used-stays, row-same}
 use Rattle.floor.proofs.StandingLaws.{apply-standing}
 use Rattle.floor.proofs.Outcomes.{apply-means}
@@ -45,18 +48,15 @@ module _ (f : Floor) (c : Command) (y : Lengths f) (p : Phase) (a b : ℕ) (w : 
   abbrev saying : Outcome
   saying = applyOf f c .outcome
 
-  means : (o : Outcome) → saying ≡ o → Meaning f c (applyOf f c .floor) o
-  means o e = subst (Meaning f c (applyOf f c .floor)) e (apply-means f c y)
-
   pub row-held : ¬ (saying ≡ said.Begun a)
-  row-held e = let m = means (said.Begun a) e in taken-rests f p (m .station) a b (m .next) (m .may .row) w
+  row-held e = let m = apply-means f c (said.Begun a) e in taken-rests f p (m .station) a b (m .next) (m .may .row) w
 
   -- a box that is away serves nothing
   not-served : boxAt f b .away ≡ true → c ≡ Serve p a b → saying ≡ said.Served a → ⊥
   not-served t e q =
-      let m = means (said.Served a) q in
+      let m = apply-means f c (said.Served a) q in
       let same : m .box ≡ b = cc in
-      clash t (subst (λ (j : ℕ). boxAt f j .away ≡ false) same (m .may .answers))
+      clash t (subst (λ (j : ℕ). boxAt f j .away ≡ false) same (m .may .not-away))
 
   still-waits : {o : Outcome} {s t : Standing} → StandingMove f c a p b o s t → saying ≡ o → isWaiting s ≡ true → (isWaiting t ≡ true) ⊎ ((c ≡ Serve p a b) × (saying ≡ said.Served a))
   still-waits stands-kept q h = inl h
@@ -93,17 +93,10 @@ isMove (said.Refused k) = false
 stays : (b : ℕ) (o : Outcome) (x : Bool) → isMove o ≡ false → AwayMove b o x x
 stays b o x e = away-kept (λ q. clash (ap isMove q) e) (λ q. clash (ap isMove q) e)
 
-module _ (f : Floor) (b j : ℕ) (n : ¬ (j ≡ b)) where
-  -- another box is moved
-  other-stops : AwayMove j (said.Stopped b) (boxAt f j .away) (getD (set (f .boxes) b (withAway true (boxAt f b))) j box0 .away)
-  other-stops =
-      rw (getD-set-other (f .boxes) b j (withAway true (boxAt f b)) box0 n)
-      (away-kept {o = said.Stopped b} (λ q. n (cc)) (λ q. let k : _≡_ {A = ℕ} 0 1 = cc in omega arith))
-
-  other-returns : AwayMove j (said.Back b) (boxAt f j .away) (getD (set (f .boxes) b (withAway false (boxAt f b))) j box0 .away)
-  other-returns =
-      rw (getD-set-other (f .boxes) b j (withAway false (boxAt f b)) box0 n)
-      (away-kept {o = said.Back b} (λ q. let k : _≡_ {A = ℕ} 0 1 = cc in omega arith) (λ q. n (cc)))
+-- another box is moved
+other-moves : (f : Floor) (b j : ℕ) (t : Bool) (o : Outcome) → ¬ (j ≡ b) → ¬ (o ≡ said.Stopped j) → ¬ (o ≡ said.Back j)
+    → AwayMove j o (boxAt f j .away) (getD (set (f .boxes) b (withAway t (boxAt f b))) j box0 .away)
+other-moves f b j t o n p q = rw (getD-set-other (f .boxes) b j (withAway t (boxAt f b)) box0 n) (away-kept {o = o} p q)
 
 away-moved : {f : Floor} {c : Command} {s : Stepped} → Lengths f → StepCase f c s → (j : ℕ) → AwayMove j (s .outcome) (boxAt f j .away) (boxAt (s .floor) j .away)
 away-moved y (turned k t) j = stays j _ _ refl
@@ -116,13 +109,13 @@ away-moved y (issued z d r q t) j = stays j _ _ refl
 away-moved y (decided z d r q t) j = stays j _ _ refl
 away-moved y (aborted z d r q t) j = stays j _ _ refl
 away-moved {f} y (stopped {b = b} z d) j = elim (ℕ-discrete j b) [
-  | yes e ↦ rw (e, d .answers, box-stored f y z b (withAway true (boxAt f b)) (d .box)) away-put
-  | no n ↦ other-stops f b j n
+  | yes e ↦ rw (e, d .not-away, box-stored f y z b (withAway true (boxAt f b)) (d .box)) away-put
+  | no n ↦ other-moves f b j true (said.Stopped b) n (λ q. n (cc)) (λ q. let k : _≡_ {A = ℕ} 0 1 = cc in omega arith)
 ]
 away-moved y (left z d) j = stays j _ _ refl
 away-moved {f} y (returned {b = b} z d) j = elim (ℕ-discrete j b) [
   | yes e ↦ rw (e, d .away, box-stored f y z b (withAway false (boxAt f b)) (d .box)) away-brought
-  | no n ↦ other-returns f b j n
+  | no n ↦ other-moves f b j false (said.Back b) n (λ q. let k : _≡_ {A = ℕ} 0 1 = cc in omega arith) (λ q. n (cc))
 ]
 
 pub away-moves : (f : Floor) (c : Command) → Lengths f → (j : ℕ) → AwayMove j (applyOf f c .outcome) (boxAt f j .away) (boxAt (applyOf f c .floor) j .away)

@@ -17,7 +17,7 @@ use Rattle.register.proofs.RegisterLaws.{ReadCase, outranked, answered, read-ca
 use Rattle.floor.specs.Floors.{boxAt, rowAt, registerAt, InUse}
 use Rattle.floor.specs.Effects.{servedBy}
 use Rattle.floor.specs.Step.{applyOf}
-use Rattle.floor.specs.Claims.{Grown, BoxMove, ServesNow, box-kept, box-serves, box-stops, box-returns}
+use Rattle.floor.specs.Moves.{Grown, BoxMove, ServesNow, box-kept, box-serves, box-stops, box-returns}
 use Rattle.floor.specs.declared.Floor.{Floor}
 use Rattle.commands.specs.declared.Outcome.{Outcome}
 use Rattle.commands.specs.declared.Command.{Command}

@@ -6,16 +6,18 @@ use Rattle.floor.specs.Runs.{playedOn}
 use Rattle.floor.proofs.RunCalls.{run-6, run-5, run-0, played-refused, played-whole}
 use Rattle.commands.specs.Commands.{commandOf}
 use Rattle.floor.specs.Step.{stepOf}
-use Rattle.floor.specs.Claims.{PlayedOver, StepClaims, RunClaims}
-use Rattle.floor.proofs.Keeps.{step-refused-same, new-sound, new-lengths, step-keeps, step-lengths, step-sizes}
-use Rattle.floor.proofs.Numbered.{refused-number, apply-number, apply-value}
+use Rattle.floor.specs.RunClaims.{PlayedOver, RunClaims}
+use Rattle.floor.specs.Claims.{StepClaims}
+use Rattle.floor.proofs.Keeps.{step-refused-same, step-keeps, step-sizes}
+use Rattle.floor.proofs.EmptyFloors.{new-sound, new-lengths}
+use Rattle.floor.proofs.LengthLaws.{step-lengths}
+use Rattle.floor.proofs.Numbered.{refused-number, apply-number}
 use Rattle.floor.proofs.Outcomes.{step-means}
-use Rattle.floor.proofs.Moves.{apply-station, apply-box, apply-row}
+use Rattle.floor.proofs.Moves.{apply-station, apply-box}
 use Rattle.floor.proofs.BoxLaws.{record-from, away-keeps, box-grown}
 use Rattle.floor.proofs.AwayLaws.{row-held, waits-until, waits-on, away-moves}
 use Rattle.floor.proofs.StationLaws.{gone-stays, department-stays, last-from, decided-from}
 use Rattle.floor.proofs.RowLaws.{apply-share, row-same, step-counted}
-use Rattle.floor.proofs.StandingLaws.{apply-standing}
 use Rattle.floor.proofs.FreeLaws.{free-means, free-holds, takes-row}
 use Rattle.floor.proofs.RunMeans.{run-ran, run-played}
 
@@ -25,7 +27,6 @@ step-claims = record {
   refused-same = step-refused-same;
   refused-number = λ f r. refused-number f (commandOf r);
   number = λ f r. apply-number f (commandOf r);
-  value = λ f r. apply-value f (commandOf r);
   new-sound = new-sound;
   new-lengths = new-lengths;
   sound = step-keeps;
@@ -34,8 +35,6 @@ step-claims = record {
   means = step-means;
   station = λ f r. apply-station f (commandOf r);
   storage = λ f r. apply-box f (commandOf r);
-  row = λ f r. apply-row f (commandOf r);
-  standing = λ f r z y a h p b k. apply-standing f z y a h p b k (commandOf r);
   record-from = λ f r d b. record-from f (commandOf r) b d;
   waits-until = λ f r z y p a b w. waits-until f (commandOf r) y p a b w z;
   waits-keeps = λ f r y p a b w. row-held f (commandOf r) y p a b w;

@@ -1,6 +1,6 @@
 -- A step that does not belong to a department leaves all of it as it was.
 use Prim.Native.Nat.{ℕ}
-use mathlib.Core.Path.{_≡_, refl, sym, ap, subst, _∙_}
+use mathlib.Core.Path.{_≡_, refl, sym, ap, _∙_}
 use mathlib.Core.Logic.{inl, inr}
 use mathlib.Core.Bool.{Bool, true, false}
 use mathlib.Core.List.{List, []}
@@ -13,26 +13,24 @@ use Rattle.register.specs.declared.Department.{Department}
 use Rattle.register.specs.declared.StorageBox.{StorageBox}
 use Rattle.register.proofs.DepartmentLaws.{same-is, box-other, register-moved}
 use Rattle.commands.specs.Commands.{commandOf}
-use Rattle.commands.specs.Outcomes.{isRefused, isBegun}
 use Rattle.commands.specs.declared.Command.{Command}
 use Rattle.commands.specs.declared.Outcome.the-variants.{Begun}
 use Rattle.attempts.specs.Stations.{station0}
 use Rattle.attempts.specs.Rows.{row0, rowDepartment, newRow}
-use Rattle.attempts.specs.Rows as rows
 use Rattle.attempts.specs.declared.Station.{Station}
 use Rattle.attempts.specs.declared.Row.{Row}
-use Rattle.floor.specs.Floors.{boxAt, stationAt, rowAt, registerAt, departmentAt, withBox, newFloorOf}
-use Rattle.floor.specs.Effects.{rowTaken, shareAfter, beginner, afterBegin, withAway}
+use Rattle.floor.specs.Floors.{boxAt, stationAt, rowAt, registerAt, departmentAt, InUse, withBox, withStation, withRow, newFloorOf}
+use Rattle.floor.specs.Effects.{rowTaken, shareAfter, beginner, withAway}
 use Rattle.floor.specs.Step.{applyOf, stepOf}
-use Rattle.floor.specs.Claims.{Lengths}
-use Rattle.floor.specs.Departments.{belongs, SameFor, Owned, DepartmentClaims}
+use Rattle.floor.specs.Soundness.{Lengths}
+use Rattle.floor.specs.Departments.{departmentOf, isOnly, SameFor, Owned, DepartmentClaims}
 use Rattle.floor.specs.declared.Floor.{Floor}
 use Rattle.floor.specs.declared.Stepped.{Stepped}
 use Rattle.floor.proofs.UseLaws.{share-other}
 use Rattle.floor.proofs.FreeLaws.{next-own}
 use Rattle.floor.proofs.StepCases.{StepCase, turned, began, served, heard, issued, decided, aborted, stopped, left, returned, apply-case}
-use Rattle.floor.proofs.StepCases as cases
-use Rattle.floor.proofs.Keeps.{row-stored, empty-unused, new-floor-by}
+use Rattle.floor.proofs.Outcomes.{apply-means, begun-row}
+use Rattle.floor.proofs.EmptyFloors.{empty-unused, new-floor-by}
 use Rattle.floor.proofs.RowLaws.{apply-in-use, row-same}
 use Rattle.floor.proofs.StationLaws.{department-stays}
 
@@ -58,11 +56,23 @@ module _ (d : Department) (f : Floor) where
   box-untouched : (b : ℕ) (t : Bool) → SameFor d f (withBox f b (withAway t (boxAt f b)))
   box-untouched b t = record { registers = registers-kept b _ (register-moved d (boxAt f b) t); share = refl; rows = λ a _. refl; stations = λ s _. refl; departments = λ s. refl }
 
+  -- an answer is received, and its station goes on
+  delivery-untouched : (a : ℕ) (w : Row) (x : Station) → Owned f → InUse f a → isOf d (rowDepartment a) ≡ false → x .department ≡ departmentAt f (rowAt f a .station)
+      → SameFor d f (withStation (withRow f a w) (rowAt f a .station) x)
+  delivery-untouched a w x o u h e =
+      let n = not-of d (rowDepartment a) h in
+      record {
+        registers = λ b. refl;
+        share = refl;
+        rows = rows-kept a w n;
+        stations = stations-kept (rowAt f a .station) x (λ q. n (sym (o a u) ∙ q));
+        departments = departments-kept (rowAt f a .station) x e;
+      }
+
   same-as : SameFor d f f
   same-as = record { registers = λ b. refl; share = refl; rows = λ a _. refl; stations = λ s _. refl; departments = λ s. refl }
 
-pub case-untouched : {f : Floor} {c : Command} {x : Stepped} → StepCase f c x → (d : Department) → Owned f → belongs f d c ≡ false → SameFor d f (x .floor)
-unfolding rows.issued
+pub case-untouched : {f : Floor} {c : Command} {x : Stepped} → StepCase f c x → (d : Department) → Owned f → isOnly d (departmentOf f c) ≡ false → SameFor d f (x .floor)
 case-untouched {f} (turned k t) d o e = same-as d f
 case-untouched {f} (began {s = s} {round = r} {v = v} z y) d o e =
     let n = not-of d (departmentAt f s) e in
@@ -84,34 +94,10 @@ case-untouched {f} (served {p = p} {a = a} {b = b} z y) d o e =
     }
 case-untouched {f} (heard {a = a} z y q) d o e =
     record { registers = λ b. refl; share = refl; rows = rows-kept d f a _ (not-of d (rowDepartment a) e); stations = λ s _. refl; departments = λ s. refl }
-case-untouched {f} (cases.issued {a = a} z y r q t) d o e =
-    let n = not-of d (rowDepartment a) e in
-    record {
-      registers = λ b. refl;
-      share = refl;
-      rows = rows-kept d f a _ n;
-      stations = stations-kept d f (rowAt f a .station) _ (λ q. n (sym (o a (y .used)) ∙ q));
-      departments = departments-kept d f (rowAt f a .station) _ refl;
-    }
-case-untouched {f} (decided {a = a} z y r q t) d o e =
-    let n = not-of d (rowDepartment a) e in
-    record {
-      registers = λ b. refl;
-      share = refl;
-      rows = rows-kept d f a _ n;
-      stations = stations-kept d f (rowAt f a .station) _ (λ q. n (sym (o a (y .used)) ∙ q));
-      departments = departments-kept d f (rowAt f a .station) _ refl;
-    }
-case-untouched {f} (aborted {a = a} z y r q t) d o e =
-    let n = not-of d (rowDepartment a) e in
-    record {
-      registers = λ b. refl;
-      share = refl;
-      rows = rows-kept d f a _ n;
-      stations = stations-kept d f (rowAt f a .station) _ (λ q. n (sym (o a (y .used)) ∙ q));
-      departments = departments-kept d f (rowAt f a .station) _ refl;
-    }
-case-untouched {f} (cases.stopped {b = b} z y) d o e = box-untouched d f b true
+case-untouched {f} (issued {a = a} z y r q t) d o e = delivery-untouched d f a _ _ o (y .used) e refl
+case-untouched {f} (decided {a = a} z y r q t) d o e = delivery-untouched d f a _ _ o (y .used) e refl
+case-untouched {f} (aborted {a = a} z y r q t) d o e = delivery-untouched d f a _ _ o (y .used) e refl
+case-untouched {f} (stopped {b = b} z y) d o e = box-untouched d f b true
 case-untouched {f} (left {s = s} z y) d o e =
     record {
       registers = λ b. refl;
@@ -120,33 +106,24 @@ case-untouched {f} (left {s = s} z y) d o e =
       stations = stations-kept d f s _ (not-of d (departmentAt f s) e);
       departments = departments-kept d f s _ refl;
     }
-case-untouched {f} (cases.returned {b = b} z y) d o e = box-untouched d f b false
+case-untouched {f} (returned {b = b} z y) d o e = box-untouched d f b false
 
-pub apply-untouched : (f : Floor) (c : Command) (d : Department) → Owned f → belongs f d c ≡ false → SameFor d f (applyOf f c .floor)
+pub apply-untouched : (f : Floor) (c : Command) (d : Department) → Owned f → isOnly d (departmentOf f c) ≡ false → SameFor d f (applyOf f c .floor)
 apply-untouched f c = case-untouched (apply-case f c)
 
 -- the row begun is of its station's department
-begun-owned : {f : Floor} {c : Command} {x : Stepped} → Lengths f → StepCase f c x → (a : ℕ) → x .outcome ≡ Begun a → departmentAt f (rowAt (x .floor) a .station) ≡ rowDepartment a
+begun-owned : (f : Floor) (c : Command) → Lengths f → (a : ℕ) → applyOf f c .outcome ≡ Begun a → departmentAt f (rowAt (applyOf f c .floor) a .station) ≡ rowDepartment a
 unfolding newRow
-begun-owned y (turned k t) a e = clash refl (ap isRefused e)
-begun-owned {f} y (began {s = s} {round = r} {v = v} z d) a e =
-    let q : rowTaken f s ≡ a = cc in
-    subst (λ (i : ℕ). departmentAt f (rowAt (afterBegin f s r v) i .station) ≡ rowDepartment i) q
-    (ap (λ (w : Row). departmentAt f (w .station)) (row-stored f y z (rowTaken f s) (newRow (f .n) s r v) (d .row)) ∙ sym (next-own f (departmentAt f s) (d .row)))
-begun-owned y (served z d) a e = clash (ap isBegun e) refl
-begun-owned y (heard z d q) a e = clash (ap isBegun e) refl
-begun-owned y (issued z d r q t) a e = clash (ap isBegun e) refl
-begun-owned y (decided z d r q t) a e = clash (ap isBegun e) refl
-begun-owned y (aborted z d r q t) a e = clash (ap isBegun e) refl
-begun-owned y (stopped z d) a e = clash (ap isBegun e) refl
-begun-owned y (left z d) a e = clash (ap isBegun e) refl
-begun-owned y (returned z d) a e = clash (ap isBegun e) refl
+begun-owned f c y a e =
+    let m = apply-means f c (Begun a) e in
+    ap (λ (w : Row). departmentAt f (w .station)) (ap (rowAt (applyOf f c .floor)) (m .next) ∙ begun-row y m)
+    ∙ sym (ap rowDepartment (m .next) ∙ next-own f (departmentAt f (m .station)) (m .may .row))
 
 pub apply-owned : (f : Floor) (c : Command) → Lengths f → Owned f → Owned (applyOf f c .floor)
 apply-owned f c y o a h =
     let g = applyOf f c .floor in
     elim (apply-in-use f c a h) [
-      | inl e ↦ department-stays f c (rowAt g a .station) ∙ begun-owned y (apply-case f c) a e
+      | inl e ↦ department-stays f c (rowAt g a .station) ∙ begun-owned f c y a e
       | inr u ↦ department-stays f c (rowAt g a .station) ∙ ap (departmentAt f) (row-same f c a (u .1) .station) ∙ o a (u .0)
     ]
 

@@ -3,10 +3,10 @@ use Prim.Native.Nat.{ℕ, zero, suc, _+_, _-_, _<_, _≤_}
 use native.Mathlib.Omega.{arith}
 use native.Mathlib.Nat.{le-refl}
 use native.Mathlib.Decide.{decLt}
-use mathlib.Core.Path.{_≡_, refl, sym, subst, _∙_}
+use mathlib.Core.Path.{_≡_, refl, sym, subst}
 use mathlib.Core.Logic.{inl, inr}
 use mathlib.Core.Bool.{Bool, true, false}
-use borrow.Author.Tests.{lt-ltb, le-ltb, ltb-true, ltb-false}
+use borrow.Author.Tests.{lt-ltb, le-ltb}
 use Rattle.base.proofs.Cases.{clash, up-to}
 use Rattle.base.proofs.Choices.{on-true, on-false, first-false, by-test}
 use Rattle.register.specs.declared.Department.{Department}
@@ -15,11 +15,13 @@ use Rattle.attempts.specs.Rows.{rowDepartment, firstRow, waitsAt, usedAfter}
 use Rattle.attempts.proofs.RowDepartments.{row-own, first-most, row-least, row-number, row-most}
 use Rattle.attempts.specs.declared.Row.{Row}
 use Rattle.attempts.proofs.UsedLaws.{used-more, used-full, none-waits, waits-none}
+use Rattle.places.specs.Search.{lowerIn, noRow}
+use Rattle.places.specs.declared.Lowest.{Lowest}
+use Rattle.places.proofs.PlaceLaws.{lower-means, lower-not, lower-first}
 use Rattle.floor.specs.Floors.{rowAt, ownerAt, usedOf, endOf}
-use Rattle.floor.specs.Free.{stillServed, allServed, freeIn, isFree, lowerIn, betterIn, noRow, freeBelow, nextRow}
+use Rattle.floor.specs.Free.{stillServed, allServed, freeIn, isFree, betterIn, freeBelow, nextRow}
 use Rattle.floor.specs.Claims.{Free, TakesRow, unused, free, none}
 use Rattle.floor.specs.declared.Floor.{Floor}
-use Rattle.floor.specs.declared.Lowest.{Lowest}
 
 -- one box more
 still-before : (t w : Bool) → stillServed t w ≡ true → t ≡ true
@@ -68,18 +70,6 @@ module _ (f : Floor) (a : ℕ) where
 abbrev at : Floor → ℕ → Lowest
 at f a = record { row = a; rank = rowAt f a .rank }
 
-lower-means : (x : Lowest) (rank : ℕ) → x .row < 128 → lowerIn x rank ≡ true → rank < x .rank
-unfolding lowerIn
-lower-means x rank h e = ltb-true rank (x .rank) (on-true true (lt-ltb (x .row) 128 h) refl ∙ e)
-
-lower-not : (x : Lowest) (rank : ℕ) → x .row < 128 → lowerIn x rank ≡ false → x .rank ≤ rank
-unfolding lowerIn
-lower-not x rank h e = ltb-false rank (x .rank) (on-true true (lt-ltb (x .row) 128 h) refl ∙ e)
-
-lower-first : (rank : ℕ) → lowerIn noRow rank ≡ true
-unfolding lowerIn
-lower-first rank = sym (on-false _ (le-ltb 128 128 (omega arith)) refl)
-
 module _ (f : Floor) (d : Department) where
   -- the rows of the department, by their numbers in it
   abbrev own : ℕ → ℕ
@@ -98,7 +88,7 @@ module _ (f : Floor) (d : Department) where
   data BestBelow (k : ℕ) : Lowest → Type 0 where
     best : {a : ℕ} → a < k → freed a ≡ true → ((c : ℕ) → c < k → freed c ≡ true → rank a ≤ rank c)
         → ((c : ℕ) → c < a → freed c ≡ true → rank a < rank c) → BestBelow k (at f (own a))
-    nothing : ((c : ℕ) → c < k → freed c ≡ false) → BestBelow k noRow
+    nothing : ((c : ℕ) → c < k → freed c ≡ false) → BestBelow k (noRow 128)
 
   module _ (k : ℕ) (h : k < 64) where
     abbrev Next : Lowest → Type 0
@@ -111,27 +101,27 @@ module _ (f : Floor) (d : Department) where
         best {a = a} (omega arith) e
         (λ c i q. elim (up-to i) [ inl p ↦ subst (λ (j : ℕ). rank a ≤ rank j) (sym p) (here (subst (λ (j : ℕ). freed j ≡ true) p q)) | inr i ↦ all c i q ]) first
 
-    still-nothing : ((c : ℕ) → c < k → freed c ≡ false) → freed k ≡ false → Next noRow
+    still-nothing : ((c : ℕ) → c < k → freed c ≡ false) → freed k ≡ false → Next (noRow 128)
     still-nothing all e = nothing (λ c i. elim (up-to i) [ inl p ↦ subst (λ (j : ℕ). freed j ≡ false) (sym p) e | inr i ↦ all c i ])
 
     more : {x : Lowest} → BestBelow k x → Next (betterIn x (rowAt f (own k)) (ownerAt f (own k) .state) (f .n) (own k))
     unfolding betterIn
     more (best {a} l e all first) =
-        by-test Next (lowerIn (at f (own a)) (rank k)) _ _
-        (λ t. let lt = lower-means (at f (own a)) (rank k) (own-most a (omega arith)) t in by-test Next (freed k) _ _
+        by-test Next (lowerIn 128 (at f (own a)) (rank k)) _ _
+        (λ t. let lt = lower-means 128 (at f (own a)) (rank k) (own-most a (omega arith)) t in by-test Next (freed k) _ _
         (λ u. best {a = k} (omega arith) u
         (λ c i q. elim (up-to i) [ inl p ↦ subst (λ (j : ℕ). rank k ≤ rank j) (sym p) (le-refl (rank k)) | inr i ↦ omega (arith, all c i q) ])
         (λ c i q. omega (arith, all c i q)))
         (λ u. stays l e all first (λ v. clash v u)))
-        (λ t. stays l e all first (λ _. lower-not (at f (own a)) (rank k) (own-most a (omega arith)) t))
+        (λ t. stays l e all first (λ _. lower-not 128 (at f (own a)) (rank k) (own-most a (omega arith)) t))
     more (nothing all) =
-        by-test Next (lowerIn noRow (rank k)) _ _
+        by-test Next (lowerIn 128 (noRow 128) (rank k)) _ _
         (λ _. by-test Next (freed k) _ _
         (λ u. best {a = k} (omega arith) u
         (λ c i q. elim (up-to i) [ inl p ↦ subst (λ (j : ℕ). rank k ≤ rank j) (sym p) (le-refl (rank k)) | inr i ↦ clash q (all c i) ])
         (λ c i q. clash q (all c i)))
         (λ u. still-nothing all u))
-        (λ t. clash (lower-first (rank k)) t)
+        (λ t. clash (lower-first 128 (rank k)) t)
 
   best-below : (k : ℕ) → k ≤ 64 → BestBelow k (freeBelow f d k)
   unfolding freeBelow

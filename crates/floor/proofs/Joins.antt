@@ -26,16 +26,18 @@ use Rattle.commands.specs.declared.Outcome.the-variants.{Refused}
 use Rattle.attempts.specs.Stations.{station0}
 use Rattle.attempts.specs.Rows.{row0, rowDepartment, firstRow, requestsHeard, rowHeard}
 use Rattle.attempts.specs.declared.Row.{Row}
-use Rattle.parts.specs.Parts.{placeIn, attemptIn, boxIn, stationIn, departmentIn, beginIn, serveIn, deliverIn, stopIn, leaveIn, returnIn, refusalIn, begun, served, receivedOnly, readEnded, heardBy, delivered, turnedBack, effectIn, changeIn}
+use Rattle.places.specs.Places.{placeIn, attemptIn, boxIn, stationIn}
+use Rattle.places.proofs.PlaceLaws.{place-same}
+use Rattle.parts.specs.Parts.{beginIn, serveIn, deliverIn, stopIn, leaveIn, returnIn, refusalIn, begun, served, receivedOnly, readEnded, heardBy, delivered, turnedBack, effectIn, changeIn}
 use Rattle.parts.specs.declared.Parts.{Parts}
 use Rattle.parts.specs.declared.Changed.{Changed}
-use Rattle.parts.proofs.PlaceLaws.{place-same}
 use Rattle.floor.specs.Floors.{boxAt, stationAt, rowAt, registerAt, departmentAt, usedOf, highestOf, endOf, InUse, sharesWith}
 use Rattle.floor.specs.Free.{takenBy}
+use Rattle.floor.specs.Departments.{belonging, departmentWith}
 use Rattle.floor.specs.Refusals.{beginRefusal, serveRefusal, deliverRefusal, stopRefusal, leaveRefusal, returnRefusal, refusalOn}
 use Rattle.floor.specs.Effects.{rowTaken, receivedOn, verdictOn, heardOn, deliveredOn, effectOn}
 use Rattle.floor.specs.Step.{applyOf}
-use Rattle.floor.specs.Claims.{Sound}
+use Rattle.floor.specs.Soundness.{Sound}
 use Rattle.floor.specs.declared.Floor.{Floor}
 use Rattle.floor.specs.declared.Stepped.{Stepped}
 use Rattle.floor.proofs.UseLaws.{share-same, in-use-most}
@@ -44,7 +46,7 @@ use Rattle.floor.proofs.StepLaws.{apply-refused, apply-accepted}
 
 -- the department that a command belongs to on a floor
 abbrev pub stepDepartment : Floor → Command → Department
-stepDepartment f c = departmentIn (departmentAt f (placeIn 16 (stationIn 0 c))) c
+stepDepartment f c = let own = departmentAt f (placeIn 16 (stationIn 0 c)) in departmentWith own (belonging own c)
 
 -- the places of the row, the box and the station that a command names on a floor
 abbrev pub rowPlace : Floor → Command → ℕ

@@ -19,7 +19,7 @@ use Rattle.attempts.specs.declared.Station.{Station}
 use Rattle.floor.specs.Floors.{departmentFrom, newStation, stationsTold, emptyFloor, newFloorOf}
 use Rattle.floor.specs.NewFloors.{Told, NewFloorClaims}
 use Rattle.floor.specs.declared.NewFloor.{NewFloor}
-use Rattle.floor.proofs.Keeps.{told-length}
+use Rattle.floor.proofs.EmptyFloors.{told-length}
 
 -- a byte's department
 sails-from : (b : ℕ) → b ≡ 0 → departmentFrom b ≡ Sails

@@ -10,7 +10,7 @@ use Rattle.base.specs.Choice.{if_then_else_}
 use Rattle.base.proofs.Choices.{on-true, on-false, by-test, passed}
 use Rattle.requests.specs.declared.Phase.{Phase}
 use Rattle.floor.specs.Refusals.{beginRefusal, serveRefusal, deliverRefusal, stopRefusal, leaveRefusal, returnRefusal, refusalOn}
-use Rattle.floor.specs.Claims.{CanBegin, CanServe, CanDeliver, CanStop, CanLeave, CanReturn, RefusalOfStep}
+use Rattle.floor.specs.Tests.{CanBegin, CanServe, CanDeliver, CanStop, CanLeave, CanReturn, RefusalOfStep}
 use Rattle.floor.specs.declared.Floor.{Floor}
 use Rattle.commands.specs.declared.Command.{Command}
 use Rattle.commands.specs.declared.Command.the-variants.{Begin, Serve, Deliver, Stop, Leave, Return, Malformed}
@@ -38,7 +38,7 @@ module _ (f : Floor) where
         record {
           station = leb-false _ _ (x₁ .0);
           here = x₂ .0;
-          free = x₃ .0;
+          not-busy = x₃ .0;
           later = leb-false _ _ (x₅ .0);
           row = leb-false _ _ (x₆ .0);
         }
@@ -46,7 +46,7 @@ module _ (f : Floor) where
     pub begin-holds : CanBegin f s round → beginRefusal f s round ≡ 0
     unfolding beginRefusal
     begin-holds d =
-        sym (on-false _ (lt-leb _ _ (d .station)) (on-false _ (d .here) (on-false _ (d .free)
+        sym (on-false _ (lt-leb _ _ (d .station)) (on-false _ (d .here) (on-false _ (d .not-busy)
         (on-false _ (not-zero round (omega (arith, d .later))) (on-false _ (lt-leb _ _ (d .later)) (on-false _ (lt-leb _ _ (d .row)) refl))))))
 
   module _ (p : Phase) (a b : ℕ) where
@@ -56,12 +56,12 @@ module _ (f : Floor) where
         let x₁ = passed _ _ _ e (omega arith) in
         let x₂ = passed _ _ _ (x₁ .1) (omega arith) in
         let x₃ = passed _ _ _ (x₂ .1) (omega arith) in
-        record { used = leb-false _ _ (x₁ .0); box = leb-false _ _ (x₂ .0); answers = x₃ .0; waits = met _ _ (x₃ .1) (omega arith) }
+        record { used = leb-false _ _ (x₁ .0); box = leb-false _ _ (x₂ .0); not-away = x₃ .0; waits = met _ _ (x₃ .1) (omega arith) }
 
     pub serve-holds : CanServe f p a b → serveRefusal f p a b ≡ 0
     unfolding serveRefusal
     serve-holds d =
-        sym (on-false _ (lt-leb _ _ (d .used)) (on-false _ (lt-leb _ _ (d .box)) (on-false _ (d .answers) (on-true _ (d .waits) refl))))
+        sym (on-false _ (lt-leb _ _ (d .used)) (on-false _ (lt-leb _ _ (d .box)) (on-false _ (d .not-away) (on-true _ (d .waits) refl))))
 
     pub deliver-means : deliverRefusal f p a b ≡ 0 → CanDeliver f p a b
     unfolding deliverRefusal
@@ -81,11 +81,11 @@ module _ (f : Floor) where
   stop-means b e =
       let x₁ = passed _ _ _ e (omega arith) in
       let x₂ = passed _ _ _ (x₁ .1) (omega arith) in
-      record { box = leb-false _ _ (x₁ .0); answers = x₂ .0 }
+      record { box = leb-false _ _ (x₁ .0); not-away = x₂ .0 }
 
   pub stop-holds : (b : ℕ) → CanStop f b → stopRefusal f b ≡ 0
   unfolding stopRefusal
-  stop-holds b d = sym (on-false _ (lt-leb _ _ (d .box)) (on-false _ (d .answers) refl))
+  stop-holds b d = sym (on-false _ (lt-leb _ _ (d .box)) (on-false _ (d .not-away) refl))
 
   pub leave-means : (s : ℕ) → leaveRefusal f s ≡ 0 → CanLeave f s
   unfolding leaveRefusal

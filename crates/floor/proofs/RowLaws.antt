@@ -18,7 +18,9 @@ use mathlib.Core.List.{List}
 use Rattle.floor.specs.Step.{applyOf, stepOf}
 use Rattle.attempts.specs.declared.Row.{Row}
 use Rattle.floor.specs.Effects.{rowTaken, shareAfter, afterBegin}
-use Rattle.floor.specs.Claims.{SameAttempt, RaisesNow, CanDeliver, RowMove, row-kept, row-begins, row-served, row-heard, row-issues, Lengths}
+use Rattle.floor.specs.Moves.{SameAttempt, RaisesNow}
+use Rattle.floor.specs.Tests.{CanDeliver}
+use Rattle.floor.specs.Soundness.{Lengths}
 use Rattle.floor.specs.declared.Floor.{Floor}
 use Rattle.floor.specs.declared.Stepped.{Stepped}
 use Rattle.commands.specs.declared.Outcome.{Outcome}
@@ -32,8 +34,10 @@ use Rattle.base.proofs.Cases.{clash}
 use Rattle.requests.proofs.Standings.{arrives-means}
 use Rattle.floor.proofs.StepCases.{StepCase, turned, began, served, heard, issued, decided, aborted, stopped, left, returned, apply-case}
 use Rattle.floor.proofs.UseLaws.{share-own, share-other}
-use Rattle.floor.proofs.Moves.{apply-row}
-use Rattle.floor.proofs.Keeps.{begun-use, use-begun, taken-use, used-stored}
+use Rattle.floor.proofs.Moves.{RowMove, row-kept, row-begins, row-served, row-heard, row-issues, apply-row}
+use Rattle.floor.proofs.BegunUse.{begun-use, use-begun, taken-use}
+use Rattle.floor.proofs.StoredLaws.{used-stored}
+use Rattle.floor.proofs.Outcomes.{apply-means}
 
 raised : {f : Floor} {c : Command} {s : Stepped} → StepCase f c s → (d : Department) → (shareOf d (s .floor) ≡ shareOf d f) ⊎ RaisesNow f d c (s .outcome) (shareOf d (s .floor))
 raised (turned k t) e = inl refl
@@ -79,38 +83,15 @@ pub used-stays : (f : Floor) (c : Command) (a : ℕ) → InUse f a → InUse (ap
 used-stays f c = still-used (apply-case f c)
 
 -- the row begun is in use
-begun-in-use : {f : Floor} {c : Command} {s : Stepped} → StepCase f c s → (a : ℕ) → s .outcome ≡ Begun a → InUse (s .floor) a
-begun-in-use (turned k t) a e = clash (ap isBegun e) refl
-begun-in-use {f} (began {s = s} {round = r} {v = v} z d) a e =
-    let q : rowTaken f s ≡ a = cc in
-    subst (InUse (afterBegin f s r v)) q (taken-use f s r v (d .row))
-begun-in-use (served z d) a e = clash (ap isBegun e) refl
-begun-in-use (heard z d q) a e = clash (ap isBegun e) refl
-begun-in-use (issued z d r q t) a e = clash (ap isBegun e) refl
-begun-in-use (decided z d r q t) a e = clash (ap isBegun e) refl
-begun-in-use (aborted z d r q t) a e = clash (ap isBegun e) refl
-begun-in-use (stopped z d) a e = clash (ap isBegun e) refl
-begun-in-use (left z d) a e = clash (ap isBegun e) refl
-begun-in-use (returned z d) a e = clash (ap isBegun e) refl
-
 pub apply-begun-use : (f : Floor) (c : Command) (a : ℕ) → applyOf f c .outcome ≡ Begun a → InUse (applyOf f c .floor) a
-apply-begun-use f c = begun-in-use (apply-case f c)
+apply-begun-use f c a e =
+    let m = apply-means f c (Begun a) e in
+    subst (InUse (applyOf f c .floor)) (sym (m .next))
+    (subst (λ (g : Floor). InUse g (rowTaken f (m .station))) (sym (m .floor)) (taken-use f (m .station) (m .round) (m .offer) (m .may .row)))
 
 -- only a begin says begun
-begin-said : {f : Floor} {c : Command} {s : Stepped} → StepCase f c s → ((t round : ℕ) (v : Suit) → ¬ (c ≡ Begin t round v)) → isBegun (s .outcome) ≡ false
-begin-said (turned k t) n = refl
-begin-said (began z d) n = absurd (n _ _ _ refl)
-begin-said (served z d) n = refl
-begin-said (heard z d q) n = refl
-begin-said (issued z d r q t) n = refl
-begin-said (decided z d r q t) n = refl
-begin-said (aborted z d r q t) n = refl
-begin-said (stopped z d) n = refl
-begin-said (left z d) n = refl
-begin-said (returned z d) n = refl
-
 pub apply-not-begun : (f : Floor) (c : Command) → ((t round : ℕ) (v : Suit) → ¬ (c ≡ Begin t round v)) → (a : ℕ) → ¬ (applyOf f c .outcome ≡ Begun a)
-apply-not-begun f c n a e = clash (ap isBegun e) (begin-said (apply-case f c) n)
+apply-not-begun f c n a e = let m = apply-means f c (Begun a) e in n (m .station) (m .round) (m .offer) (m .command)
 
 -- a row in use after a step was begun by it, or was in use before and is the same attempt's
 in-use : {f : Floor} {c : Command} {s : Stepped} → StepCase f c s → (a : ℕ) → InUse (s .floor) a → (s .outcome ≡ Begun a) ⊎ (InUse f a × (¬ (s .outcome ≡ Begun a)))

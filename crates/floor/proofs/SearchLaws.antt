@@ -14,16 +14,17 @@ use Rattle.register.specs.declared.Department.{Department}
 use Rattle.attempts.specs.Rows.{firstRow}
 use Rattle.attempts.specs.declared.State.{State}
 use Rattle.attempts.specs.declared.Row.{Row}
+use Rattle.places.specs.Search.{noRow}
+use Rattle.places.specs.declared.Lowest.{Lowest}
 use Rattle.floor.specs.Floors.{rowAt, ownerAt, usedOf}
-use Rattle.floor.specs.Free.{betterIn, noRow, freeBelow, takenBy, startOf, firstOf}
+use Rattle.floor.specs.Free.{betterIn, freeBelow, takenBy, startOf, firstOf}
 use Rattle.floor.specs.declared.Floor.{Floor}
-use Rattle.floor.specs.declared.Lowest.{Lowest}
 use Rattle.attempts.proofs.RowDepartments.{first-most}
 use Rattle.floor.proofs.FreeLaws.{next-unused, next-full}
 
 module _ (f : Floor) (d : Department) where
   -- before the first row, and once the row k of the department was looked at
-  pub none-found : noRow ≡ freeBelow f d 0
+  pub none-found : noRow 128 ≡ freeBelow f d 0
   unfolding freeBelow
   none-found = refl
 
@@ -55,13 +56,13 @@ module _ (f : Floor) (d : Department) where
       by-cases (ltb (usedOf f d) 64)
       (λ t.
       let h = ltb-true (usedOf f d) 64 t in
-      let q = e ∙ sym (on-true noRow t refl) in
+      let q = e ∙ sym (on-true (noRow 128) t refl) in
       let r = ap (λ (y : Lowest). y .row) q in
       known (omega (arith, first-64 x (omega (arith, r, first-most d)))) (r ∙ sym (next-unused f d h)))
       (λ t.
       let h = ltb-false (usedOf f d) 64 t in
       let q = e ∙ sym (on-false (record { row = firstRow d + usedOf f d; rank = 0 }) t refl) in
-      seeking h (next-full f d h) (q ∙ sym (ap (freeBelow f d) (ap firstOf q ∙ first-0 noRow (omega arith)))))
+      seeking h (next-full f d h) (q ∙ sym (ap (freeBelow f d) (ap firstOf q ∙ first-0 (noRow 128) (omega arith)))))
 
   starts : (c : Command) (x : Lowest) → x ≡ startOf (firstRow d) (usedOf f d) c → Looking f d c (firstOf x) x
   starts (Begin s round v) x e = begin-starts s round v x e

@@ -18,7 +18,7 @@ use Rattle.attempts.specs.Rows.{row0, rowDepartment, firstRow}
 use Rattle.attempts.proofs.RowDepartments.{row-own, row-least, row-number}
 use Rattle.floor.specs.Floors.{rowAt, usedOf}
 use Rattle.floor.specs.Sound.{stationsBelow, shareSound, soundOf}
-use Rattle.floor.specs.Claims.{Sound}
+use Rattle.floor.specs.Soundness.{Sound}
 use Rattle.attempts.specs.declared.Row.{Row}
 use Rattle.floor.specs.declared.Floor.{Floor}
 use Rattle.floor.proofs.UseLaws.{of-use}

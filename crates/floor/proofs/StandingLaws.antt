@@ -27,9 +27,9 @@ use Rattle.attempts.specs.declared.Row.{Row}
 use Rattle.floor.specs.Floors.{rowAt, ownerAt}
 use Rattle.floor.specs.Effects.{servedBy}
 use Rattle.floor.specs.Step.{applyOf}
-use Rattle.floor.specs.Claims.{Sound, Lengths, RowMove, row-kept, row-begins, row-served, row-heard, row-issues, StandingMove, stands-kept, stands-new, stands-served, stands-received, stands-issued}
+use Rattle.floor.specs.Soundness.{Sound, Lengths}
 use Rattle.floor.specs.declared.Floor.{Floor}
-use Rattle.floor.proofs.Moves.{apply-row}
+use Rattle.floor.proofs.Moves.{RowMove, row-kept, row-begins, row-served, row-heard, row-issues, apply-row, StandingMove, stands-kept, stands-new, stands-served, stands-received, stands-issued}
 
 pub is-waiting : (s : Standing) → isWaiting s ≡ true → s ≡ waiting
 is-waiting notIssued e = clash e refl

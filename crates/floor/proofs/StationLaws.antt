@@ -10,7 +10,7 @@ use Rattle.floor.specs.Effects.{rowTaken}
 use Rattle.floor.specs.Step.{applyOf}
 use Rattle.attempts.specs.declared.State.{State}
 use Rattle.attempts.specs.declared.Station.{Station}
-use Rattle.floor.specs.Claims.{DecidesNow, BeginsNow, StationMove, station-kept, station-begins, station-issues, station-decides, station-aborts, station-leaves}
+use Rattle.floor.specs.Moves.{DecidesNow, BeginsNow, StationMove, station-kept, station-begins, station-issues, station-decides, station-aborts, station-leaves}
 use Rattle.floor.specs.declared.Floor.{Floor}
 use Rattle.commands.specs.declared.Outcome.{Outcome}
 use Rattle.commands.specs.declared.Outcome.the-variants.{Begun, Gone}
@@ -47,7 +47,7 @@ module _ {f : Floor} {c : Command} {j : ℕ} where
   active-by : {o : Outcome} {x : Station} (a : ℕ) → StationMove f c j o x → isActive (x .state) a ≡ true → (isActive (stationAt f j .state) a ≡ true) ⊎ (o ≡ Begun a)
   active-by a station-kept e = inl e
   active-by a (station-begins q h i l) e = inr (ap Begun (eqb-true (rowTaken f j) a e))
-  active-by a (station-issues {a = k} q u w r) e = inl (ap (λ (p : State). isActive p a) (is-reading (stationAt f j .state) k r) ∙ e)
+  active-by a (station-issues {a = k} q u w r) e = inl (ap (λ (st : State). isActive st a) (is-reading (stationAt f j .state) k r) ∙ e)
   active-by a (station-decides q u w r v) e = clash e refl
   active-by a (station-aborts q u w r) e = clash e refl
   active-by a (station-leaves q h) e = clash e refl

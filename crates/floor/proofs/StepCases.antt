@@ -1,4 +1,5 @@
--- What a step can be: turned back, or one of nine, each with the tests that it passed. A law of steps is then a function by cases.
+-- What a step can be: turned back, or one of nine, each with the tests that it passed; what it led to is said by Effects alone. A law of
+-- steps is then a function by cases.
 use Prim.Native.Nat.{ℕ}
 use native.Mathlib.Omega.{arith}
 use mathlib.Core.Path.{_≡_, refl}
@@ -9,19 +10,19 @@ use lib.Dec.{eqb}
 use borrow.Author.Tests.{eqb-true, eqb-false}
 use Rattle.suits.specs.declared.Suit.{Suit}
 use Rattle.base.proofs.Choices.{by-test}
-use Rattle.floor.specs.Floors.{rowAt, ownerAt, withRow}
+use Rattle.floor.specs.Floors.{rowAt, ownerAt}
 use Rattle.attempts.specs.Stations.{isReading, isWriting, isIn}
 use Rattle.floor.specs.Sound.{soundOf}
-use Rattle.floor.specs.Claims.{Sound, CanBegin, CanServe, CanDeliver, CanStop, CanLeave, CanReturn, TurnedBack}
+use Rattle.floor.specs.Soundness.{Sound}
+use Rattle.floor.specs.Tests.{CanBegin, CanServe, CanDeliver, CanStop, CanLeave, CanReturn, TurnedBack}
 use Rattle.commands.specs.Commands.{commandOf}
-use Rattle.attempts.specs.Rows.{revisionOf, requestsHeard}
+use Rattle.attempts.specs.Rows.{requestsHeard}
 use Rattle.floor.specs.Refusals.{refusalOn}
-use Rattle.floor.specs.Effects.{heardRow, stepped, rowTaken, afterBegin, afterServe, afterIssue, afterDecision, afterAbort, afterStop, afterLeave, afterReturn, heardOn, deliveredOn, effectOn}
+use Rattle.floor.specs.Effects.{heardRow, receivedOn, readEndedOn, writeEndedOn, heardOn, deliveredOn, effectOn}
 use Rattle.commands.specs.Outcomes.{isRefused}
 use Rattle.floor.specs.Step.{refused, playOf, applyOf, stepOf}
 use Rattle.floor.specs.declared.Floor.{Floor}
 use Rattle.floor.specs.declared.Stepped.{Stepped}
-use Rattle.commands.specs.declared.Outcome.the-variants as said
 use Rattle.commands.specs.declared.Command.{Command}
 use Rattle.commands.specs.declared.Command.the-variants.{Begin, Serve, Deliver, Stop, Leave, Return, Malformed}
 use Rattle.floor.proofs.SoundLaws.{sound-means}
@@ -29,29 +30,28 @@ use Rattle.requests.specs.Requests.{atQuorum, allYes}
 use Rattle.requests.specs.declared.Phase.{Phase}
 use Rattle.requests.specs.declared.Phase.the-variants.{Read, Write}
 use Rattle.requests.specs.declared.Verdict.{Verdict}
+use Rattle.requests.specs.declared.Verdict.the-variants.{No}
 use Rattle.requests.proofs.RequestLaws.{Came, still, agreed, denied, verdict-came}
 use Rattle.base.proofs.Cases.{clash}
 use Rattle.floor.proofs.RefusalLaws.{begin-means, serve-means, deliver-means, stop-means, leave-means, return-means, refusal-numbered}
 
 pub data StepCase (f : Floor) : Command → Stepped → Type 0 where
   turned : {c : Command} (k : ℕ) → TurnedBack f c k → StepCase f c (refused f k)
-  began : {s round : ℕ} {v : Suit} → Sound f → CanBegin f s round → StepCase f (Begin s round v) (stepped (afterBegin f s round v) (said.Begun (rowTaken f s)))
-  served : {p : Phase} {a b : ℕ} → Sound f → CanServe f p a b → StepCase f (Serve p a b) (stepped (afterServe f p a b) (said.Served a))
+  began : {s round : ℕ} {v : Suit} → Sound f → CanBegin f s round → StepCase f (Begin s round v) (effectOn f (Begin s round v))
+  served : {p : Phase} {a b : ℕ} → Sound f → CanServe f p a b → StepCase f (Serve p a b) (effectOn f (Serve p a b))
   heard : {p : Phase} {a b : ℕ} → Sound f → CanDeliver f p a b
       → (isIn p (ownerAt f a .state) a ≡ false) ⊎ (atQuorum (requestsHeard p (rowAt f a) b) (f .n) ≡ false)
-      → StepCase f (Deliver p a b) (stepped (withRow f a (heardRow f p a b)) (said.Received a))
+      → StepCase f (Deliver p a b) (receivedOn f p a b)
   issued : {a b : ℕ} → Sound f → CanDeliver f Read a b → isReading (ownerAt f a .state) a ≡ true → atQuorum (heardRow f Read a b .read) (f .n) ≡ true
-      → allYes (heardRow f Read a b .read) (f .n) ≡ true
-      → StepCase f (Deliver Read a b) (stepped (afterIssue f a (heardRow f Read a b) (revisionOf (heardRow f Read a b) (f .n))) (said.WriteIssued (revisionOf (heardRow f Read a b) (f .n))))
+      → allYes (heardRow f Read a b .read) (f .n) ≡ true → StepCase f (Deliver Read a b) (readEndedOn f a (heardRow f Read a b))
   decided : {a b : ℕ} → Sound f → CanDeliver f Write a b → isWriting (ownerAt f a .state) a ≡ true → atQuorum (heardRow f Write a b .write) (f .n) ≡ true
-      → allYes (heardRow f Write a b .write) (f .n) ≡ true
-      → StepCase f (Deliver Write a b) (stepped (afterDecision f a (heardRow f Write a b)) (said.Decided (rowAt f a .written)))
+      → allYes (heardRow f Write a b .write) (f .n) ≡ true → StepCase f (Deliver Write a b) (writeEndedOn f a (heardRow f Write a b))
   aborted : {p : Phase} {a b : ℕ} → Sound f → CanDeliver f p a b → isIn p (ownerAt f a .state) a ≡ true
       → allYes (requestsHeard p (rowAt f a) b) (f .n) ≡ false → (p ≡ Write → atQuorum (requestsHeard p (rowAt f a) b) (f .n) ≡ true)
-      → StepCase f (Deliver p a b) (stepped (afterAbort f a (heardRow f p a b)) (said.Aborted a))
-  stopped : {b : ℕ} → Sound f → CanStop f b → StepCase f (Stop b) (stepped (afterStop f b) (said.Stopped b))
-  left : {s : ℕ} → Sound f → CanLeave f s → StepCase f (Leave s) (stepped (afterLeave f s) (said.Gone s))
-  returned : {b : ℕ} → Sound f → CanReturn f b → StepCase f (Return b) (stepped (afterReturn f b) (said.Back b))
+      → StepCase f (Deliver p a b) (heardOn f p a b No)
+  stopped : {b : ℕ} → Sound f → CanStop f b → StepCase f (Stop b) (effectOn f (Stop b))
+  left : {s : ℕ} → Sound f → CanLeave f s → StepCase f (Leave s) (effectOn f (Leave s))
+  returned : {b : ℕ} → Sound f → CanReturn f b → StepCase f (Return b) (effectOn f (Return b))
 
 -- an accepted step of each kind on a sound floor
 module _ (f : Floor) (z : Sound f) where

@@ -7,7 +7,7 @@ use Rattle.register.specs.declared.Department.the-variants.{Sails, Canvas}
 use Rattle.attempts.specs.Rows.{rowDepartment}
 use Rattle.attempts.proofs.RowDepartments.{first-most}
 use Rattle.floor.specs.Floors.{shareOf, endOf, InUse, sharesWith, withShare}
-use Rattle.floor.specs.Claims.{Sound}
+use Rattle.floor.specs.Soundness.{Sound}
 use Rattle.floor.specs.declared.Share.{Share}
 use Rattle.floor.specs.declared.Floor.{Floor}
 

@@ -82,9 +82,11 @@ readEndedOn f a w = stepped (afterIssue f a w (revisionOf w (f .n))) (said.Write
 
 -- "When the q-th write answer reaches a writing station, it decides if all q say taken; otherwise it aborts and is idle." Wish 7: "A station
 -- keeps whether it decided", and which revision.
+abbrev pub deciding : (x : Station) (a : ℕ) (revision : Suit) → Station
+deciding x a revision = record { department = x .department; state = state.Decided a; last = x .last; decided = Revision revision }
+
 abbrev pub decider : (f : Floor) (a : ℕ) (w : Row) → Station
-decider f a w =
-    record { department = departmentAt f (w .station); state = state.Decided a; last = stationAt f (w .station) .last; decided = Revision (w .written) }
+decider f a w = deciding (stationAt f (w .station)) a (w .written)
 
 abbrev pub afterDecision : (f : Floor) (a : ℕ) (w : Row) → Floor
 afterDecision f a w = withStation (withRow f a w) (w .station) (decider f a w)
@@ -138,23 +140,3 @@ effectOn f (Stop b) = stepped (afterStop f b) (said.Stopped b)
 effectOn f (Leave s) = stepped (afterLeave f s) (said.Gone s)
 effectOn f (Return b) = stepped (afterReturn f b) (said.Back b)
 effectOn f Malformed = stepped f (said.Refused 7)
-
--- Document 01's value of what an accepted step says: "begun, served, received or aborted with the attempt; write issued or decided with
--- the revision; stopped with the box; gone with the station". Wish 8: "Kind 8 says stopped and kind 9 back, with the box."
-abbrev pub heardValue : (f : Floor) (phase : Phase) (a b : ℕ) (v : Verdict) → ℕ
-heardValue f phase a b Open = a
-heardValue f phase a b Yes = ofPhase phase (revisionOf (heardRow f phase a b) (f .n) .r0) (heardRow f phase a b .written .r0)
-heardValue f phase a b No = a
-
-unfoldable pub deliveredValue : (f : Floor) (phase : Phase) (a b : ℕ) → ℕ
-deliveredValue f phase a b =
-    if isIn phase (ownerAt f a .state) a then heardValue f phase a b (verdictOn f phase a b) else a
-
-abbrev pub valueOn : (f : Floor) (c : Command) → ℕ
-valueOn f (Begin s round v) = rowTaken f s
-valueOn f (Serve p a b) = a
-valueOn f (Deliver p a b) = deliveredValue f p a b
-valueOn f (Stop b) = b
-valueOn f (Leave s) = s
-valueOn f (Return b) = b
-valueOn f Malformed = 0

@@ -127,3 +127,8 @@ newFloorOf n m departments =
     (if departmentsWrong m departments then record { floor = emptyFloor 1 1 []; refusal = 22 }
     else record { floor = emptyFloor n m departments; refusal = 0 })
     else record { floor = emptyFloor 1 1 []; refusal = 3 }
+
+-- Document 01, "The list of demand 3": "It .. starts from a new floor of any n and m", told the departments of its stations (wish 6). Where
+-- these are not right that is the floor of one box and one station, sails.
+abbrev pub firstFloor : (n m : ℕ) (departments : List ℕ) → Floor
+firstFloor n m departments = newFloorOf n m departments .floor

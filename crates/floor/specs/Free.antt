@@ -10,9 +10,10 @@ use Rattle.attempts.specs.Stations.{isActive}
 use Rattle.attempts.specs.Rows.{firstRow, waitsAt}
 use Rattle.attempts.specs.declared.State.{State}
 use Rattle.attempts.specs.declared.Row.{Row}
+use Rattle.places.specs.Search.{lowerIn, noRow}
+use Rattle.places.specs.declared.Lowest.{Lowest}
 use Rattle.floor.specs.Floors.{rowAt, ownerAt, usedOf, endOf}
 use Rattle.floor.specs.declared.Floor.{Floor}
-use Rattle.floor.specs.declared.Lowest.{Lowest}
 
 -- one box more
 unfoldable pub stillServed : (before waits : Bool) → Bool
@@ -32,24 +33,16 @@ freeIn w state n a = if isActive state a then false else allServed w n
 abbrev pub isFree : (f : Floor) (a : ℕ) → Bool
 isFree f a = freeIn (rowAt f a) (ownerAt f a .state) (f .n) a
 
--- the rank is smaller than that of the row found so far, or none was found
-unfoldable pub lowerIn : (x : Lowest) (rank : ℕ) → Bool
-lowerIn x rank = if ltb (x .row) 128 then ltb rank (x .rank) else true
-
 -- the better of the row found so far and the row a: that, if it is free and its rank is smaller
 unfoldable pub betterIn : (x : Lowest) (w : Row) (state : State) (n a : ℕ) → Lowest
 betterIn x w state n a =
-    if lowerIn x (w .rank) then (if freeIn w state n a then record { row = a; rank = w .rank } else x)
+    if lowerIn 128 x (w .rank) then (if freeIn w state n a then record { row = a; rank = w .rank } else x)
     else x
-
--- none was found
-abbrev pub noRow : Lowest
-noRow = record { row = 128; rank = 0 }
 
 -- "the free row with the smallest rank, of equals the lowest", among the first k rows of the department; its number is 128 where none of
 -- them is free
 unfoldable pub freeBelow : (f : Floor) (department : Department) (k : ℕ) → Lowest
-freeBelow f department zero = noRow
+freeBelow f department zero = noRow 128
 freeBelow f department (suc k) =
     betterIn (freeBelow f department k) (rowAt f (firstRow department + k)) (ownerAt f (firstRow department + k) .state) (f .n)
     (firstRow department + k)
@@ -71,7 +64,7 @@ takenBy f department Malformed = 0
 
 -- and only one with all 64 used has to look for it: it looks at each row of the department, from its first on
 abbrev pub startOf : (first used : ℕ) (c : Command) → Lowest
-startOf first used (Begin s round v) = if ltb used 64 then record { row = first + used; rank = 0 } else noRow
+startOf first used (Begin s round v) = if ltb used 64 then record { row = first + used; rank = 0 } else noRow 128
 startOf first used (Serve p a b) = record { row = 0; rank = 0 }
 startOf first used (Deliver p a b) = record { row = 0; rank = 0 }
 startOf first used (Stop b) = record { row = 0; rank = 0 }

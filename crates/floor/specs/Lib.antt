@@ -5,6 +5,11 @@ pub mod Refusals
 pub mod Effects
 pub mod Step
 pub mod Runs
+pub mod Soundness
+pub mod Tests
+pub mod Meanings
+pub mod Moves
 pub mod Claims
+pub mod RunClaims
 pub mod Departments
 pub mod NewFloors

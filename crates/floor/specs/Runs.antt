@@ -1,7 +1,7 @@
 -- The steps of a list of records, "each step given the floor that the last one left".
-use Prim.Native.Nat.{ℕ, zero, suc, _+_, _%_}
+use Prim.Native.Nat.{ℕ}
 use mathlib.Core.List.{List, [], _∷_}
-use mathlib.Core.Bool.{Bool, true}
+use mathlib.Core.Bool.{Bool}
 use lib.Dec.{eqb}
 use lib.ListN.{length, getD}
 use Rattle.base.specs.Choice.{if_then_else_}
@@ -11,21 +11,25 @@ use Rattle.commands.specs.Outcomes.{numberOf, isRefused, isEnd}
 use Rattle.commands.specs.declared.Command.{Command}
 use Rattle.commands.specs.declared.Outcome.{Outcome}
 use Rattle.commands.specs.declared.Outcome.the-variants.{Refused}
+use Rattle.runs.specs.Runs.{stateAt, stopsBy, ranFrom, refusalBy}
+use Rattle.runs.specs.declared.Until.{Until}
+use Rattle.runs.specs.declared.Until.the-variants.{Refusal, End}
 use Rattle.floor.specs.Sound.{soundOf}
 use Rattle.floor.specs.Step.{applyOf, stepOf}
 use Rattle.floor.specs.declared.Floor.{Floor}
-use Rattle.floor.specs.declared.Stepped.{Stepped}
-use Rattle.floor.specs.declared.Until.{Until}
-use Rattle.floor.specs.declared.Until.the-variants.{Refusal, End}
 use Rattle.floor.specs.declared.Ran.{Ran}
 use Rattle.floor.specs.declared.Played.{Played}
+
+-- "It holds single steps with any bytes": a record is a list of numbers, whatever they are and however many. Behind the end of the list a
+-- record has no bytes, and its step is refused. What the step at i asks:
+abbrev pub commandAt : (l : List (List ℕ)) (i : ℕ) → Command
+commandAt l i = commandOf (getD l i [])
 
 -- The list by positions, from 0; behind its end a record has no bytes, and its step is refused.
 module _ (f : Floor) (l : List (List ℕ)) where
   -- "Each step is given the floor that the one before handed back, after a refused one too": the floor before the step at i
-  unfoldable pub floorAt : (i : ℕ) → Floor
-  floorAt zero = f
-  floorAt (suc i) = stepOf (floorAt i) (getD l i []) .floor
+  abbrev pub floorAt : (i : ℕ) → Floor
+  floorAt i = stateAt [] (λ (g : Floor) (r : List ℕ). stepOf g r .floor) f l i
 
   -- what the step at i said
   abbrev pub saidAt : (i : ℕ) → Outcome
@@ -36,20 +40,17 @@ module _ (f : Floor) (l : List (List ℕ)) where
   floorLeft = floorAt (length l)
 
 -- A run ends behind a step that was refused, or also behind one that ended an attempt.
-unfoldable pub stopsAt : (until : Until) (o : Outcome) → Bool
-stopsAt Refusal o = isRefused o
-stopsAt End o = if isRefused o then true else isEnd o
+abbrev pub stopsAt : (until : Until) (o : Outcome) → Bool
+stopsAt until o = stopsBy until (isRefused o) (isEnd o)
 
--- the step x after k accepted ones
-abbrev pub ranBy : (k : ℕ) (x : Stepped) → Ran
-ranBy k x = record { floor = x .floor; accepted = if isRefused (x .outcome) then k else k + 1; outcome = x .outcome }
+-- what a run hands back
+abbrev pub ranWith : (f : Floor) (k : ℕ) (o : Outcome) → Ran
+ranWith f k o = record { floor = f; accepted = k; outcome = o }
 
 -- the command c and then the records rs, after k accepted steps
-unfoldable pub runFrom : (until : Until) (k : ℕ) (f : Floor) (c : Command) (rs : List (List ℕ)) → Ran
-runFrom until k f c [] = ranBy k (applyOf f c)
-runFrom until k f c (r ∷ rs) =
-    if stopsAt until (applyOf f c .outcome) then ranBy k (applyOf f c)
-    else runFrom until (k + 1) (applyOf f c .floor) (commandOf r) rs
+abbrev pub runFrom : (until : Until) (k : ℕ) (f : Floor) (c : Command) (rs : List (List ℕ)) → Ran
+runFrom until k f c rs =
+    ranFrom isRefused isEnd commandOf (λ (g : Floor) (x : Command). applyOf g x .floor) (λ (g : Floor) (x : Command). applyOf g x .outcome) ranWith until k f c rs
 
 -- a run of one record and those behind it
 abbrev pub runOf : (until : Until) (f : Floor) (r : List ℕ) (rs : List (List ℕ)) → Ran
@@ -65,13 +66,7 @@ playedOn f (r ∷ rs) =
       refusal = numberOf (runOf Refusal f r rs .outcome);
     }
 
--- Records handed in as a list of bytes. What turns it back before its first step: 6, "A handed-in floor has ..", and then 5, "not whole
--- records"; 0 where neither applies.
-unfoldable pub refusalBy : (sound : Bool) (size : ℕ) → ℕ
-refusalBy sound size =
-    if sound then (if eqb (size % 8) 0 then 0 else 5)
-    else 6
-
+-- Records handed in as a list of bytes: what turns it back before its first step
 unfoldable pub runRefusal : (f : Floor) (bytes : List ℕ) → ℕ
 runRefusal f bytes = refusalBy (soundOf f) (length bytes)
 

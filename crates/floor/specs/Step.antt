@@ -4,11 +4,12 @@ use mathlib.Core.List.{List}
 use lib.Dec.{eqb}
 use Rattle.base.specs.Choice.{if_then_else_}
 use Rattle.commands.specs.Commands.{commandOf}
+use Rattle.commands.specs.Outcomes.{valueOf}
 use Rattle.commands.specs.declared.Command.{Command}
 use Rattle.commands.specs.declared.Outcome.the-variants.{Refused}
 use Rattle.floor.specs.Sound.{soundOf}
 use Rattle.floor.specs.Refusals.{refusalOn}
-use Rattle.floor.specs.Effects.{effectOn, valueOn}
+use Rattle.floor.specs.Effects.{effectOn}
 use Rattle.floor.specs.declared.Floor.{Floor}
 use Rattle.floor.specs.declared.Stepped.{Stepped}
 
@@ -35,6 +36,6 @@ stepOf f r = applyOf f (commandOf r)
 unfoldable pub refusalOf : (f : Floor) (c : Command) → ℕ
 refusalOf f c = if soundOf f then refusalOn f c else 6
 
--- what `valueOf` gives of it: 0 where it is refused
-unfoldable pub valueSaid : (f : Floor) (c : Command) → ℕ
-valueSaid f c = if eqb (refusalOf f c) 0 then valueOn f c else 0
+-- the value: 0 where it is refused
+abbrev pub valueSaid : (f : Floor) (c : Command) → ℕ
+valueSaid f c = valueOf (applyOf f c .outcome)

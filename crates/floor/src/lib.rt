@@ -38,12 +38,6 @@ pub struct NewFloor {
     pub refusal: u8,
 }
 
-// Where a run of steps ends before its last: behind a step that was refused, or also behind one that ended an attempt.
-pub enum Until {
-    Refusal,
-    End,
-}
-
 // The floor that the accepted steps of a run left, how many they are, and what the last step said, the refused one included.
 pub struct Ran {
     pub floor: Floor,
@@ -57,10 +51,4 @@ pub struct Played {
     pub floor: Floor,
     pub accepted: usize,
     pub refusal: u8,
-}
-
-// The free row of the smallest rank found so far, and that rank; the row is 128 where none was found.
-pub struct Lowest {
-    pub row: u8,
-    pub rank: u32,
 }

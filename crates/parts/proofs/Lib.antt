@@ -1,4 +1,3 @@
 pub mod NamedLaws
 pub mod EffectNeeds
-pub mod PlaceLaws
 pub mod DeliverLaws

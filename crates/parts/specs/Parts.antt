@@ -1,13 +1,12 @@
--- Internal. The parts of a floor that the loop of `floor` reads for one step and stores behind it, and the step on these alone: words of
+-- Internal. The parts of a floor that the loop of `steps` reads for one step and stores behind it, and the step on these alone: words of
 -- private contracts. No promise rests on this file: what a step is on a floor stands in crates/floor/specs, and crates/floor/proofs/Joins
 -- shows that on a sound floor the two are the same.
 use Prim.Native.Nat.{ℕ, _+_, max}
 use mathlib.Core.Bool.{Bool, true, false}
-use lib.Dec.{eqb, leb, ltb}
+use lib.Dec.{eqb, leb}
 use Rattle.base.specs.Choice.{if_then_else_}
 use Rattle.base.specs.Numbers.{rankOf}
 use Rattle.suits.specs.declared.Suit.{Suit}
-use Rattle.register.specs.declared.Department.{Department}
 use Rattle.register.specs.declared.Register.{Register}
 use Rattle.requests.specs.Requests.{ofPhase, standingOf, isWaiting, isOnTheWay, verdictOf}
 use Rattle.requests.specs.declared.Phase.{Phase}
@@ -17,57 +16,13 @@ use Rattle.commands.specs.declared.Command.{Command}
 use Rattle.commands.specs.declared.Command.the-variants.{Begin, Serve, Deliver, Stop, Leave, Return, Malformed}
 use Rattle.commands.specs.declared.Outcome.the-variants as said
 use Rattle.attempts.specs.Stations.{isGone, isBusy, isIn, withState}
-use Rattle.attempts.specs.Rows.{rowDepartment, requestsOf, newRow, revisionOf, usedAfter, issued, rowServed, registerServed, requestsHeard, rowHeard}
+use Rattle.attempts.specs.Rows.{requestsOf, newRow, revisionOf, usedAfter, issued, rowServed, registerServed, requestsHeard, rowHeard}
 use Rattle.attempts.specs.declared.State.the-variants as state
 use Rattle.attempts.specs.declared.Decision.the-variants.{Revision}
 use Rattle.attempts.specs.declared.Station.{Station}
 use Rattle.attempts.specs.declared.Row.{Row}
 use Rattle.parts.specs.declared.Parts.{Parts}
 use Rattle.parts.specs.declared.Changed.{Changed}
-
--- The place of an array that a number names. One past the end names none; its step is turned back with 8, whatever stands at place 0.
-unfoldable pub placeIn : (limit x : ℕ) → ℕ
-placeIn limit x = if ltb x limit then x else 0
-
--- The row, the box and the station that a command names, where a begin takes the row `next` and the row named belongs to `owner`. Where
--- a command names none, place 0 is read and stored back.
-abbrev pub attemptIn : (next : ℕ) (c : Command) → ℕ
-attemptIn next (Begin s round v) = next
-attemptIn next (Serve p a b) = a
-attemptIn next (Deliver p a b) = a
-attemptIn next (Stop b) = 0
-attemptIn next (Leave s) = 0
-attemptIn next (Return b) = 0
-attemptIn next Malformed = 0
-
-abbrev pub boxIn : (c : Command) → ℕ
-boxIn (Begin s round v) = 0
-boxIn (Serve p a b) = b
-boxIn (Deliver p a b) = b
-boxIn (Stop b) = b
-boxIn (Leave s) = 0
-boxIn (Return b) = b
-boxIn Malformed = 0
-
-abbrev pub stationIn : (owner : ℕ) (c : Command) → ℕ
-stationIn owner (Begin s round v) = s
-stationIn owner (Serve p a b) = owner
-stationIn owner (Deliver p a b) = owner
-stationIn owner (Stop b) = 0
-stationIn owner (Leave s) = s
-stationIn owner (Return b) = 0
-stationIn owner Malformed = 0
-
--- The department that the step belongs to, where the station that it names is of the department `own`. A stop, a return and what is malformed
--- belong to none: one is named, and stored as it was.
-abbrev pub departmentIn : (own : Department) (c : Command) → Department
-departmentIn own (Begin s round v) = own
-departmentIn own (Serve p a b) = rowDepartment a
-departmentIn own (Deliver p a b) = rowDepartment a
-departmentIn own (Stop b) = own
-departmentIn own (Leave s) = own
-departmentIn own (Return b) = own
-departmentIn own Malformed = own
 
 -- Refusals 7 to 14 and 23, 0 where the step is accepted.
 unfoldable pub beginIn : (x : Parts) (s round : ℕ) → ℕ

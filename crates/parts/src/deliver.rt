@@ -19,7 +19,7 @@ pub(crate) fn deliver_refusal(x: Parts, p: Phase, a: u8, b: u8) -> u8
     let state = st.state;
     let w = x.row;
     let gone = attempts::gone(state);
-    let unknown = super::places::unknown(x.first, x.used, x.n, a, b);
+    let unknown = super::named::unknown(x.first, x.used, x.n, a, b);
     if unknown {
         return 8;
     }

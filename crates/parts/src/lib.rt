@@ -10,16 +10,12 @@ mod begin;
 mod deliver;
 mod kinds;
 mod leave;
-mod places;
+mod named;
 mod returns;
 mod serve;
 mod stop;
 
 pub use kinds::change;
-pub use places::box_place;
-pub use places::department_in;
-pub use places::row_place;
-pub use places::station_place;
 
 // The parts of a floor that one step looks at, and all that it can change: of a department's things those of its own department. `first`
 // is the department's first row, `used` how many of its rows are in use, `highest` its highest rank begun, and `register` the box's

@@ -10,7 +10,7 @@ pub(crate) fn serve_refusal(x: Parts, p: Phase, a: u8, b: u8) -> u8
     ensures { λ r. ⌜ r ≡ serveIn x p a b ⌝ }
 {
     let w = x.row;
-    let unknown = super::places::unknown(x.first, x.used, x.n, a, b);
+    let unknown = super::named::unknown(x.first, x.used, x.n, a, b);
     if unknown {
         return 8;
     }

@@ -14,9 +14,9 @@ use Rattle.base.specs.Departments.{departmentsWrong, notDepartments, notDepartm
 use Rattle.floor.specs.Floors.{departmentFrom, stationsTold, emptyFloor, newFloorOf}
 use Rattle.floor.specs.declared.Floor.{Floor}
 use Rattle.floor.specs.Runs.{playedOn, playedIn}
-use Rattle.floor.specs.Claims.{PlayedOver}
+use Rattle.floor.specs.RunClaims.{PlayedOver}
 use Rattle.floor.proofs.SoundLaws.{sound-holds}
-use Rattle.floor.proofs.Keeps.{new-sound}
+use Rattle.floor.proofs.EmptyFloors.{new-sound}
 use Rattle.floor.proofs.RunCalls.{run-0, played-whole}
 use Rattle.floor.proofs.RunMeans.{run-played}
 use Rattle.drill_file.specs.DrillFile.{boxesOf, stationsOf, departmentsOf, recordsStart, fileRefusal, headerOf, recordsOf}

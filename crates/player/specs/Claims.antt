@@ -5,7 +5,7 @@ use mathlib.Core.List.{List, []}
 use lib.ListN.{length}
 use Rattle.floor.specs.Floors.{emptyFloor, newFloorOf}
 use Rattle.floor.specs.Runs.{playedIn}
-use Rattle.floor.specs.Claims.{PlayedOver}
+use Rattle.floor.specs.RunClaims.{PlayedOver}
 use Rattle.drill_file.specs.DrillFile.{boxesOf, stationsOf, fileRefusal, recordsOf}
 use Rattle.drill_file.specs.Writer.{DrillParts, writeRefusal}
 use Rattle.drill_file.specs.Claims.{fileIn}

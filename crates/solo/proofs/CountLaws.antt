@@ -6,11 +6,12 @@ use mathlib.Core.List.{List, _∷_}
 use Rattle.suits.specs.declared.Suit.{Suit}
 use Rattle.base.proofs.Cases.{clash}
 use Rattle.base.proofs.Choices.{by-test}
-use Rattle.floor.specs.Runs.{floorAt, runOf}
-use Rattle.floor.specs.Claims.{Sound}
+use Rattle.runs.specs.Runs.{stateAt}
+use Rattle.floor.specs.Runs.{runOf}
+use Rattle.floor.specs.Soundness.{Sound}
 use Rattle.floor.specs.declared.Floor.{Floor}
 use Rattle.floor.specs.declared.Ran.{Ran}
-use Rattle.floor.specs.declared.Until.the-variants.{End}
+use Rattle.runs.specs.declared.Until.the-variants.{End}
 use Rattle.floor.proofs.RunMeans.{run-ran}
 use Rattle.solo.specs.Plan.{beginOf, exchangesOf, planOf}
 use Rattle.solo.specs.Solo.{turnedAway, ofRun, soloOf}
@@ -23,7 +24,7 @@ run-counted f r rs =
     record { within = o .within; reached = o .left; accepted = o .each; last = o .last }
 
 back-counted : (f : Floor) (rs : List (List ℕ)) (k : ℕ) → Counted f rs (turnedAway f k)
-unfolding floorAt
+unfolding stateAt
 back-counted f rs k = record { within = omega arith; reached = refl; accepted = λ i h. absurd (omega arith); last = λ e. clash refl e }
 
 -- for every floor and whatever was asked, refused solo finishes too

@@ -25,26 +25,32 @@ use Rattle.attempts.specs.Rows.{newRow}
 use Rattle.attempts.specs.Stations.{isGone, isBusy}
 use Rattle.attempts.specs.declared.Station.{Station}
 use Rattle.attempts.specs.declared.Row.{Row}
+use Rattle.runs.specs.Runs.{ranFrom, stopsBy}
 use Rattle.floor.specs.Floors.{rowAt, registerAt, departmentAt}
 use Rattle.floor.specs.Effects.{rowTaken, stepped, afterBegin}
 use Rattle.floor.proofs.FreeLaws.{next-own}
 use Rattle.floor.specs.Step.{refused, applyOf}
-use Rattle.floor.specs.Runs.{stopsAt, runFrom, runOf}
-use Rattle.floor.specs.Claims.{CanBegin, Sound, Lengths}
+use Rattle.floor.specs.Runs.{runOf}
+use Rattle.floor.specs.Tests.{CanBegin}
+use Rattle.floor.specs.Soundness.{Sound, Lengths}
 use Rattle.floor.specs.declared.Floor.{Floor}
 use Rattle.floor.specs.declared.Stepped.{Stepped}
-use Rattle.floor.specs.declared.Until.the-variants.{End}
+use Rattle.runs.specs.declared.Until.the-variants.{End}
 use Rattle.floor.proofs.SoundLaws.{sound-holds}
 use Rattle.floor.proofs.StepCases.{StepCase, turned, began, apply-case}
 use Rattle.floor.proofs.Accepts.{begin-accepted}
-use Rattle.floor.proofs.Keeps.{apply-keeps, apply-lengths, row-stored, station-stored, taken-use}
-use Rattle.solo.specs.Plan.{highestBegun, roundOf, answeringFrom, answering, lowest, askedOf, exchanges, beginOf, exchangesOf}
+use Rattle.floor.proofs.Keeps.{apply-keeps}
+use Rattle.floor.proofs.LengthLaws.{apply-lengths}
+use Rattle.floor.proofs.StoredLaws.{row-stored, station-stored}
+use Rattle.floor.proofs.BegunUse.{taken-use}
+use Rattle.plans.specs.Plans.{exchanges}
+use Rattle.plans.proofs.RoundLaws.{round-some, round-passes}
+use Rattle.solo.specs.Plan.{highestBegun, roundOf, answeringFrom, answering, lowest, askedOf, beginOf, exchangesOf}
 use Rattle.solo.specs.Solo.{soloRefusal, turnedAway, ofRun, soloOf}
 use Rattle.solo.specs.Claims.{Lawful, Ready, DecidesAlone, Ends, decided, aborted, outranked}
 use Rattle.solo.specs.Claims as claims
 use Rattle.solo.specs.declared.Solo.{Solo}
 use Rattle.solo.proofs.FrontLaws.{front-means, front-holds, solo-refused, solo-driven, refusal-sound, refusal-zero}
-use Rattle.solo.proofs.RoundLaws.{round-some, round-passes}
 use Rattle.solo.proofs.PhaseRequests.{all-wait}
 use Rattle.solo.proofs.Driven.{Attempt, Driven, RequestsAt}
 use Rattle.solo.proofs.Phases.{Over, has-decided, has-aborted, was-outranked, AtEnd, Leads, step-on, Ascending, both-driven}
@@ -103,7 +109,7 @@ module _ (f : Floor) (s : ℕ) (v : Suit) (highest : Bool) (z : Sound f) (l : Le
   rest-driven (b ∷ bs) h u = both-driven attempt bs b h u begunFloor (record { floor = begun-driven; requests = begun-reads })
 
   run-ends : AtEnd attempt (runOf End f (beginOf f s v) (exchangesOf f s))
-  unfolding exchangesOf lowest stopsAt if_then_else_
+  unfolding exchangesOf lowest stopsBy if_then_else_
   run-ends =
       step-on attempt 0 f begunFloor (Begin s round v) (Begun (rowTaken f s)) begins _ refl
       (rest-driven (askedOf f) (length-take-le (quorum (f .n)) (answering f) enough)
@@ -118,7 +124,7 @@ module _ (f : Floor) (s : ℕ) (v : Suit) (y : Lawful f) (x : Ready f s) where
   can-begin = record {
     station = x .station;
     here = ap isGone (x .idle);
-    free = ap isBusy (x .idle);
+    not-busy = ap isBusy (x .idle);
     later = elim (y .last s) [ inl e ↦ omega (arith, e, round-some (highestBegun f s) s) | inr h ↦ omega (arith, h, passes) ];
     row = x .row;
   }
@@ -127,7 +133,7 @@ module _ (f : Floor) (s : ℕ) (v : Suit) (y : Lawful f) (x : Ready f s) where
   no-refusal =
       refusal-sound f s (sound-holds f (y .sound))
       ∙ front-holds f s (roundOf f s)
-      (record { station = x .station; here = can-begin .here; free = can-begin .free; left = x .round; row = x .row; boxes = x .boxes })
+      (record { station = x .station; here = can-begin .here; not-busy = can-begin .not-busy; left = x .round; row = x .row; boxes = x .boxes })
 
   decides : {t : Attempt} {o : Outcome} {k : ℕ} (d : Solo) → t .n ≡ f .n → t .highest ≡ true → d .outcome ≡ o → d .steps ≡ k → Over t o k → DecidesAlone f d
   decides d z i e n (has-decided v) = record { revision = v; said = e; steps = rw z at n }
@@ -147,7 +153,7 @@ module _ (f : Floor) (s : ℕ) (v : Suit) (l : Lengths f) where
   begin = Begin s (roundOf f s) v
 
   run-back : (k : ℕ) (rs : List (List ℕ)) → applyOf f begin ≡ refused f k → ofRun (runOf End f (beginOf f s v) rs) ≡ turnedAway f k
-  unfolding runFrom stopsAt if_then_else_
+  unfolding ranFrom stopsBy if_then_else_
   run-back k [] e = rw (decode-encode begin, e)
   run-back k (r ∷ rs) e = rw (decode-encode begin, e)
 

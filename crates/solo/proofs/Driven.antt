@@ -31,12 +31,15 @@ use Rattle.attempts.specs.Rows.{row0, rowDepartment, requestsOf, issued, revisi
 use Rattle.floor.specs.Floors.{boxAt, stationAt, rowAt, ownerAt, InUse, withRow}
 use Rattle.floor.proofs.UseLaws.{in-use-most}
 use Rattle.attempts.specs.Stations.{isIn}
-use Rattle.floor.specs.Claims.{Sound, Lengths, CanDeliver}
+use Rattle.floor.specs.Soundness.{Sound, Lengths}
+use Rattle.floor.specs.Tests.{CanDeliver}
 use Rattle.floor.specs.Effects.{heardRow, stepped, afterServe, afterIssue, afterDecision, afterAbort, verdictOn}
 use Rattle.floor.specs.Step.{applyOf}
 use Rattle.attempts.proofs.StationTests.{reading-holds, writing-holds, here-in}
 use Rattle.floor.proofs.Accepts.{serve-accepted, received, aborted, write-issued, write-decided}
-use Rattle.floor.proofs.Keeps.{apply-keeps, apply-lengths, apply-sizes, used-stored, owner-stored}
+use Rattle.floor.proofs.Keeps.{apply-keeps, apply-sizes}
+use Rattle.floor.proofs.LengthLaws.{apply-lengths}
+use Rattle.floor.proofs.StoredLaws.{used-stored, owner-stored}
 use Rattle.floor.proofs.RowLaws.{used-stays, row-same, requests-put}
 use Rattle.attempts.specs.declared.State.{State}
 use Rattle.attempts.specs.declared.State.the-variants.{Reading, Writing}
@@ -68,41 +71,41 @@ ownOf t = rowDepartment (t .number)
 abbrev pub heldBy : (t : Attempt) (x : StorageBox) → Register
 heldBy t x = registerOf (ownOf t) x
 
--- a box is away where it was; where the attempt's rank is the highest, the box has served no higher one, and from box p on it
+-- a box is away where it was; where the attempt's rank is the highest, the box has served no higher one, and from box lo on it
 -- has not served the attempt's write
-pub record BoxOk (t : Attempt) (p j : ℕ) (x : StorageBox) : Type 0 where
+pub record BoxOk (t : Attempt) (lo j : ℕ) (x : StorageBox) : Type 0 where
   pub away : x .away ≡ getD (t .boxes) j box0 .away
   pub read : t .highest ≡ true → heldBy t x .read ≤ t .rank
-  pub write : t .highest ≡ true → p ≤ j → heldBy t x .write < t .rank
+  pub write : t .highest ≡ true → lo ≤ j → heldBy t x .write < t .rank
 
 -- what a station in a phase is, and the boxes from where on none was asked for the write
 abbrev pub stateIn : Phase → ℕ → State
-stateIn f a = ofPhase f (Reading a) (Writing a)
+stateIn p a = ofPhase p (Reading a) (Writing a)
 
 abbrev pub askedBelow : Phase → ℕ → ℕ
-askedBelow f p = ofPhase f 0 p
+askedBelow p lo = ofPhase p 0 lo
 
 -- the floor within one phase of the attempt: its row, its station's state and the boxes are as the attempt has left them, the boxes
--- from p on not yet asked
-pub record Driven (t : Attempt) (f : Phase) (p : ℕ) (g : Floor) : Type 0 where
+-- from lo on not yet asked
+pub record Driven (t : Attempt) (p : Phase) (lo : ℕ) (g : Floor) : Type 0 where
   pub sound : Sound g
   pub lengths : Lengths g
   pub size : g .n ≡ t .n
   pub begun : InUse g (t .number)
   pub owner : rowAt g (t .number) .station ≡ t .station
   pub rank : rowAt g (t .number) .rank ≡ t .rank
-  pub boxes : (j : ℕ) → BoxOk t (askedBelow f p) j (boxAt g j)
-  pub state : stationAt g (t .station) .state ≡ stateIn f (t .number)
+  pub boxes : (j : ℕ) → BoxOk t (askedBelow p lo) j (boxAt g j)
+  pub state : stationAt g (t .station) .state ≡ stateIn p (t .number)
 
 -- the requests of a phase; where the attempt's rank is the highest, each answer is a yes
 abbrev pub RequestsAt : Attempt → ℕ → ℕ → Requests → Type 0
-RequestsAt t p k h = Waits (t .n) (λ j. slotAt h j .stage) (h .heard) (λ j. t .highest ≡ true → slotAt h j .ok ≡ true) p k
+RequestsAt t lo k h = Waits (t .n) (λ j. slotAt h j .stage) (h .heard) (λ j. t .highest ≡ true → slotAt h j .ok ≡ true) lo k
 
 abbrev pub RequestsSent : Attempt → ℕ → ℕ → Requests → Type 0
 RequestsSent t b k h = Sent (t .n) (λ j. slotAt h j .stage) (h .heard) (λ j. t .highest ≡ true → slotAt h j .ok ≡ true) b k
 
 -- the floor after an accepted step
-driven-on : {t : Attempt} {f next : Phase} {p q : ℕ} {g : Floor} (c : Command) (x : Stepped) → Driven t f p g → applyOf g c ≡ x → isBegun (x .outcome) ≡ false
+driven-on : {t : Attempt} {p next : Phase} {lo q : ℕ} {g : Floor} (c : Command) (x : Stepped) → Driven t p lo g → applyOf g c ≡ x → isBegun (x .outcome) ≡ false
     → ((j : ℕ) → BoxOk t (askedBelow next q) j (boxAt (x .floor) j)) → stationAt (x .floor) (t .station) .state ≡ stateIn next (t .number) → Driven t next q (x .floor)
 driven-on {t} {g = g} c x d e o b s =
     let r = row-same g c (t .number) (λ q. clash (ap isBegun q) (ap (λ (y : Stepped). isBegun (y .outcome)) e ∙ o)) in
@@ -117,12 +120,12 @@ driven-on {t} {g = g} c x d e o b s =
       state = s;
     }
 
-module _ {t : Attempt} {f : Phase} {p : ℕ} {g : Floor} (d : Driven t f p g) where
+module _ {t : Attempt} {p : Phase} {lo : ℕ} {g : Floor} (d : Driven t p lo g) where
   -- what holds of the row stored holds of the row there
   row-stored : (Q : Row → Type 0) (w : Row) → Q w → Q (getD (set (g .rows) (t .number) w) (t .number) row0)
   row-stored Q w q = rw (used-stored g (d .lengths) (d .sound) (t .number) w (d .begun)) q
 
-  owner-state : ownerAt g (t .number) .state ≡ stateIn f (t .number)
+  owner-state : ownerAt g (t .number) .state ≡ stateIn p (t .number)
   owner-state = ap (λ (i : ℕ). stationAt g i .state) (d .owner) ∙ d .state
 
   in-row : t .number < 128
@@ -133,7 +136,7 @@ before-quorum : (h : Requests) (n : ℕ) → countBelow (h .heard) n < quorum n 
 before-quorum h n l = quorum-not h n (λ (e : countBelow (h .heard) n ≡ quorum n). omega arith)
 
 -- a station in a phase is in that phase of its attempt
-in-holds : (f : Phase) (a : ℕ) → isIn f (stateIn f a) a ≡ true
+in-holds : (p : Phase) (a : ℕ) → isIn p (stateIn p a) a ≡ true
 in-holds Read a = reading-holds a
 in-holds Write a = writing-holds a
 
@@ -144,13 +147,13 @@ in-holds Write a = writing-holds a
 abbrev withHeld : (t : Attempt) (x : StorageBox) (r : Register) → StorageBox
 withHeld t x r = boxWith (ownOf t) x r (x .away)
 
-held-ok : (t : Attempt) {p b : ℕ} (x : StorageBox) (r : Register) → x .away ≡ getD (t .boxes) b box0 .away → (t .highest ≡ true → r .read ≤ t .rank)
-    → (t .highest ≡ true → p ≤ b → r .write < t .rank) → BoxOk t p b (withHeld t x r)
+held-ok : (t : Attempt) {lo b : ℕ} (x : StorageBox) (r : Register) → x .away ≡ getD (t .boxes) b box0 .away → (t .highest ≡ true → r .read ≤ t .rank)
+    → (t .highest ≡ true → lo ≤ b → r .write < t .rank) → BoxOk t lo b (withHeld t x r)
 held-ok t x r s h k =
     let e = box-own (ownOf t) x r (x .away) in
     record { away = s; read = λ i. rw e (h i); write = λ i u. rw e (k i u) }
 
-box-read : {t : Attempt} {p b r : ℕ} {x : StorageBox} {d : ReadDone} → r ≡ t .rank → BoxOk t p b x → ReadCase (heldBy t x) r d → BoxOk t p b (withHeld t x (d .register))
+box-read : {t : Attempt} {lo b r : ℕ} {x : StorageBox} {d : ReadDone} → r ≡ t .rank → BoxOk t lo b x → ReadCase (heldBy t x) r d → BoxOk t lo b (withHeld t x (d .register))
 box-read {t} {x = x} e o (outranked h) = held-ok t x (heldBy t x) (o .away) (o .read) (o .write)
 box-read {t} {x = x} e o (answered h k) = held-ok t x _ (o .away) (λ i. rw e (le-refl (t .rank))) (o .write)
 
@@ -162,23 +165,23 @@ read-answers h k (answered _ _) = refl
 box-answers : {t : Attempt} {b : ℕ} {x : StorageBox} (r : ℕ) → r ≡ t .rank → BoxOk t 0 b x → t .highest ≡ true → isHeld (rmwRead (heldBy t x) r .answer) ≡ true
 box-answers {t} {x = x} r e o i = read-answers (rw e (o .read i)) (omega (arith, e, o .write i (omega arith))) (read-case (heldBy t x) r)
 
-box-written : {t : Attempt} {p b : ℕ} {x : StorageBox} (r : ℕ) (v : Suit) → BoxOk t p b x → BoxOk t (b + 1) b (withHeld t x (rmwWrite (heldBy t x) r v .register))
+box-written : {t : Attempt} {lo b : ℕ} {x : StorageBox} (r : ℕ) (v : Suit) → BoxOk t lo b x → BoxOk t (b + 1) b (withHeld t x (rmwWrite (heldBy t x) r v .register))
 box-written {t} {x = x} r v o = held-ok t x _ (o .away) (λ i. rw (write-keeps-read (heldBy t x) r v) (o .read i)) (λ i u. absurd (omega arith))
 
-box-served : {t : Attempt} {b : ℕ} {x : StorageBox} (p : ℕ) (f : Phase) (w : Row) → w .rank ≡ t .rank → BoxOk t (askedBelow f p) b x
-    → BoxOk t (askedBelow f (b + 1)) b (withHeld t x (registerServed f w (heldBy t x)))
-box-served {t} {x = x} p Read w e o = box-read e o (read-case (heldBy t x) (w .rank))
-box-served p Write w e o = box-written (w .rank) (w .written) o
+box-served : {t : Attempt} {b : ℕ} {x : StorageBox} (lo : ℕ) (p : Phase) (w : Row) → w .rank ≡ t .rank → BoxOk t (askedBelow p lo) b x
+    → BoxOk t (askedBelow p (b + 1)) b (withHeld t x (registerServed p w (heldBy t x)))
+box-served {t} {x = x} lo Read w e o = box-read e o (read-case (heldBy t x) (w .rank))
+box-served lo Write w e o = box-written (w .rank) (w .written) o
 
-box-later : {t : Attempt} {p b j : ℕ} {x : StorageBox} (f : Phase) → p ≤ b → BoxOk t (askedBelow f p) j x → BoxOk t (askedBelow f (b + 1)) j x
+box-later : {t : Attempt} {lo b j : ℕ} {x : StorageBox} (p : Phase) → lo ≤ b → BoxOk t (askedBelow p lo) j x → BoxOk t (askedBelow p (b + 1)) j x
 box-later Read l o = o
 box-later Write l o = record { away = o .away; read = o .read; write = λ i u. o .write i (omega arith) }
 
-box-takes : {t : Attempt} {p b : ℕ} {x : StorageBox} (r : ℕ) (v : Suit) → r ≡ t .rank → p ≤ b → BoxOk t p b x → t .highest ≡ true → rmwWrite (heldBy t x) r v .taken ≡ true
+box-takes : {t : Attempt} {lo b : ℕ} {x : StorageBox} (r : ℕ) (v : Suit) → r ≡ t .rank → lo ≤ b → BoxOk t lo b x → t .highest ≡ true → rmwWrite (heldBy t x) r v .taken ≡ true
 box-takes {t} {x = x} r v e l o i = write-answers (heldBy t x) r v ∙ takes-both (heldBy t x) r (rw e (o .read i)) (rw e (o .write i l))
 
 -- requests of a phase of which box b has served, with a yes where the attempt's rank is the highest
-one-served : (t : Attempt) (x : Requests) (ok : Bool) {p b k : ℕ} → RequestsAt t p k x → p ≤ b → b < t .n → b < length (x .slots)
+one-served : (t : Attempt) (x : Requests) (ok : Bool) {lo b k : ℕ} → RequestsAt t lo k x → lo ≤ b → b < t .n → b < length (x .slots)
     → (t .highest ≡ true → ok ≡ true) → RequestsSent t b k (servedAt x b ok)
 one-served t x ok {b = b} r l h i y =
     one-sent r b l h _ _ (ap (λ (s : Slot). s .stage) (served-slot x b i ok))
@@ -187,73 +190,73 @@ one-served t x ok {b = b} r l h i y =
     (λ u. ap (λ (s : Slot). s .ok) (served-slot x b i ok) ∙ y u)
 
 -- what the box answers, where the attempt's rank is the highest: yes
-module _ {t : Attempt} {p b : ℕ} {x : StorageBox} (w : Row) (e : w .rank ≡ t .rank) (l : p ≤ b) where
-  requests-sent : (f : Phase) {k : ℕ} → BoxOk t (askedBelow f p) b x → b < t .n → b < length (requestsOf f w .slots) → RequestsAt t p k (requestsOf f w)
-      → RequestsSent t b k (requestsOf f (rowServed f w (heldBy t x) b))
+module _ {t : Attempt} {lo b : ℕ} {x : StorageBox} (w : Row) (e : w .rank ≡ t .rank) (l : lo ≤ b) where
+  requests-sent : (p : Phase) {k : ℕ} → BoxOk t (askedBelow p lo) b x → b < t .n → b < length (requestsOf p w .slots) → RequestsAt t lo k (requestsOf p w)
+      → RequestsSent t b k (requestsOf p (rowServed p w (heldBy t x) b))
   requests-sent Read o h i r = one-served t (w .read) _ r l h i (λ u. box-answers (w .rank) e o u)
   requests-sent Write o h i r = one-served t (w .write) _ r l h i (λ u. box-takes (w .rank) (w .written) e l o u)
 
 -- box b, which answers and was not asked yet, serves the request
-module _ {t : Attempt} {g : Floor} {p k : ℕ} (f : Phase) (d : Driven t f p g) (r : RequestsAt t p k (requestsOf f (rowAt g (t .number)))) (b : ℕ) (l : p ≤ b) (h : b < t .n)
+module _ {t : Attempt} {g : Floor} {lo k : ℕ} (p : Phase) (d : Driven t p lo g) (r : RequestsAt t lo k (requestsOf p (rowAt g (t .number)))) (b : ℕ) (l : lo ≤ b) (h : b < t .n)
     (o : getD (t .boxes) b box0 .away ≡ false) where
-  pub served : applyOf g (Serve f (t .number) b) ≡ stepped (afterServe g f (t .number) b) (Served (t .number))
+  pub served : applyOf g (Serve p (t .number) b) ≡ stepped (afterServe g p (t .number) b) (Served (t .number))
   served =
-      serve-accepted g (d .sound) (t .number) b f
-      (record { used = d .begun; box = rw (d .size) h; answers = d .boxes b .away ∙ o; waits = r .waiting b l h })
+      serve-accepted g (d .sound) (t .number) b p
+      (record { used = d .begun; box = rw (d .size) h; not-away = d .boxes b .away ∙ o; waits = r .waiting b l h })
 
-  pub served-driven : Driven t f (b + 1) (afterServe g f (t .number) b)
+  pub served-driven : Driven t p (b + 1) (afterServe g p (t .number) b)
   served-driven =
-      driven-on (Serve f (t .number) b) _ d served refl
-      (set-all box0 (BoxOk t (askedBelow f (b + 1))) (g .boxes) b _ (λ j. box-later f l (d .boxes j)) (box-served p f (rowAt g (t .number)) (d .rank) (d .boxes b))) (d .state)
+      driven-on (Serve p (t .number) b) _ d served refl
+      (set-all box0 (BoxOk t (askedBelow p (b + 1))) (g .boxes) b _ (λ j. box-later p l (d .boxes j)) (box-served lo p (rowAt g (t .number)) (d .rank) (d .boxes b))) (d .state)
 
-  pub served-sent : RequestsSent t b k (requestsOf f (rowAt (afterServe g f (t .number) b) (t .number)))
+  pub served-sent : RequestsSent t b k (requestsOf p (rowAt (afterServe g p (t .number) b) (t .number)))
   served-sent =
-      row-stored d (λ w. RequestsSent t b k (requestsOf f w)) _
-      (requests-sent (rowAt g (t .number)) (d .rank) l f (d .boxes b) h (omega (arith, d .lengths .slots f (t .number) (in-row d), d .size, d .sound .box-most)) r)
+      row-stored d (λ w. RequestsSent t b k (requestsOf p w)) _
+      (requests-sent (rowAt g (t .number)) (d .rank) l p (d .boxes b) h (omega (arith, d .lengths .slots p (t .number) (in-row d), d .size, d .sound .box-most)) r)
 
 -- its answer is delivered
-module _ {t : Attempt} {g : Floor} {b k : ℕ} (f : Phase) (d : Driven t f (b + 1) g) (h : b < t .n) (r : RequestsSent t b k (requestsOf f (rowAt g (t .number)))) where
-  in-phase : isIn f (ownerAt g (t .number) .state) (t .number) ≡ true
-  in-phase = ap (λ (x : State). isIn f x (t .number)) (owner-state d) ∙ in-holds f (t .number)
+module _ {t : Attempt} {g : Floor} {b k : ℕ} (p : Phase) (d : Driven t p (b + 1) g) (h : b < t .n) (r : RequestsSent t b k (requestsOf p (rowAt g (t .number)))) where
+  in-phase : isIn p (ownerAt g (t .number) .state) (t .number) ≡ true
+  in-phase = ap (λ (x : State). isIn p x (t .number)) (owner-state d) ∙ in-holds p (t .number)
 
-  can : CanDeliver g f (t .number) b
-  can = record { used = d .begun; box = rw (d .size) h; here = here-in f (ownerAt g (t .number) .state) (t .number) in-phase; arrives = r .coming }
+  can : CanDeliver g p (t .number) b
+  can = record { used = d .begun; box = rw (d .size) h; here = here-in p (ownerAt g (t .number) .state) (t .number) in-phase; arrives = r .coming }
 
-  heard : RequestsAt t (b + 1) (k + 1) (requestsHeard f (rowAt g (t .number)) b)
+  heard : RequestsAt t (b + 1) (k + 1) (requestsHeard p (rowAt g (t .number)) b)
   heard = one-heard r h
 
   -- whether all said yes, as they did where the attempt's rank is the highest
   abbrev pub allSaid : Bool
-  allSaid = allYes (requestsHeard f (rowAt g (t .number)) b) (g .n)
+  allSaid = allYes (requestsHeard p (rowAt g (t .number)) b) (g .n)
 
   pub all-said : t .highest ≡ true → allSaid ≡ true
-  all-said i = yes-holds (requestsHeard f (rowAt g (t .number)) b) (g .n) (λ j _ e. heard .good j e i)
+  all-said i = yes-holds (requestsHeard p (rowAt g (t .number)) b) (g .n) (λ j _ e. heard .good j e i)
 
   -- before the q-th
   module _ (q : k + 1 < quorum (t .n)) where
-    unfilled : atQuorum (requestsHeard f (rowAt g (t .number)) b) (g .n) ≡ false
+    unfilled : atQuorum (requestsHeard p (rowAt g (t .number)) b) (g .n) ≡ false
     unfilled = rw (d .size) (before-quorum _ (t .n) (rw (heard .count) q))
 
-    module _ (y : f ≡ Read → allSaid ≡ true) where
-      pub more : applyOf g (Deliver f (t .number) b) ≡ stepped (withRow g (t .number) (heardRow g f (t .number) b)) (Received (t .number))
-      more = received g (d .sound) (t .number) b f can (inr (verdict-open _ (g .n) f unfilled y))
+    module _ (y : p ≡ Read → allSaid ≡ true) where
+      pub more : applyOf g (Deliver p (t .number) b) ≡ stepped (withRow g (t .number) (heardRow g p (t .number) b)) (Received (t .number))
+      more = received g (d .sound) (t .number) b p can (inr (verdict-open _ (g .n) p unfilled y))
 
-      pub more-driven : Driven t f (b + 1) (withRow g (t .number) (heardRow g f (t .number) b))
-      more-driven = driven-on (Deliver f (t .number) b) _ d more refl (d .boxes) (d .state)
+      pub more-driven : Driven t p (b + 1) (withRow g (t .number) (heardRow g p (t .number) b))
+      more-driven = driven-on (Deliver p (t .number) b) _ d more refl (d .boxes) (d .state)
 
-    pub more-requests : RequestsAt t (b + 1) (k + 1) (requestsOf f (rowAt (withRow g (t .number) (heardRow g f (t .number) b)) (t .number)))
+    pub more-requests : RequestsAt t (b + 1) (k + 1) (requestsOf p (rowAt (withRow g (t .number) (heardRow g p (t .number) b)) (t .number)))
     more-requests =
-        row-stored d (λ w. RequestsAt t (b + 1) (k + 1) (requestsOf f w)) (heardRow g f (t .number) b)
-        (rw (requests-put f (rowAt g (t .number)) (requestsHeard f (rowAt g (t .number)) b)) heard)
+        row-stored d (λ w. RequestsAt t (b + 1) (k + 1) (requestsOf p w)) (heardRow g p (t .number) b)
+        (rw (requests-put p (rowAt g (t .number)) (requestsHeard p (rowAt g (t .number)) b)) heard)
 
   -- the q-th
-  pub full : k + 1 ≡ quorum (t .n) → atQuorum (requestsHeard f (rowAt g (t .number)) b) (g .n) ≡ true
+  pub full : k + 1 ≡ quorum (t .n) → atQuorum (requestsHeard p (rowAt g (t .number)) b) (g .n) ≡ true
   full q = rw (d .size) (quorum-holds _ (t .n) (heard .count ∙ q))
 
   -- one that ends the phase with a no
-  pub aborts : verdictOn g f (t .number) b ≡ No
-      → applyOf g (Deliver f (t .number) b) ≡ stepped (afterAbort g (t .number) (heardRow g f (t .number) b)) (Aborted (t .number))
-  aborts = aborted g (d .sound) (t .number) b f can in-phase
+  pub aborts : verdictOn g p (t .number) b ≡ No
+      → applyOf g (Deliver p (t .number) b) ≡ stepped (afterAbort g (t .number) (heardRow g p (t .number) b)) (Aborted (t .number))
+  aborts = aborted g (d .sound) (t .number) b p can in-phase
 
 -- the q-th answer to the read, none of them outranked: the write is issued
 module _ {t : Attempt} {g : Floor} {b k : ℕ} (d : Driven t Read (b + 1) g) (h : b < t .n) (r : RequestsSent t b k (rowAt g (t .number) .read)) (q : k + 1 ≡ quorum (t .n))

@@ -19,7 +19,7 @@ use Rattle.floor.specs.Sound.{soundOf}
 use Rattle.floor.specs.Runs.{runOf}
 use Rattle.floor.specs.Effects.{rowTaken}
 use Rattle.floor.specs.declared.Floor.{Floor}
-use Rattle.floor.specs.declared.Until.the-variants.{End}
+use Rattle.runs.specs.declared.Until.the-variants.{End}
 use Rattle.solo.specs.Plan.{roundOf, answering, beginOf, exchangesOf}
 use Rattle.solo.specs.Solo.{frontRefusal, soloRefusal, turnedAway, ofRun, soloOf, soloNumber, soloValue}
 use Rattle.solo.specs.Claims.{TurnedBy, unsound, no-station, gone, busy, no-round, no-row, few-boxes, none}
@@ -29,7 +29,7 @@ use Rattle.solo.specs.declared.Solo.{Solo}
 pub record MayFinish (f : Floor) (s round : ℕ) : Type 0 where
   pub station : s < f .m
   pub here : isGone (stationAt f s .state) ≡ false
-  pub free : isBusy (stationAt f s .state) ≡ false
+  pub not-busy : isBusy (stationAt f s .state) ≡ false
   pub left : round ≤ 65535
   pub row : rowTaken f s < 128
   pub boxes : quorum (f .n) ≤ length (answering f)
@@ -47,7 +47,7 @@ module _ (f : Floor) (s round : ℕ) where
       record {
         station = leb-false _ _ (x₁ .0);
         here = x₂ .0;
-        free = x₃ .0;
+        not-busy = x₃ .0;
         left = ltb-false _ _ (x₄ .0);
         row = leb-false _ _ (x₅ .0);
         boxes = ltb-false _ _ (x₆ .0);
@@ -56,7 +56,7 @@ module _ (f : Floor) (s round : ℕ) where
   pub front-holds : MayFinish f s round → frontRefusal f s round ≡ 0
   unfolding frontRefusal
   front-holds d =
-      sym (on-false _ (lt-leb _ _ (d .station)) (on-false _ (d .here) (on-false _ (d .free)
+      sym (on-false _ (lt-leb _ _ (d .station)) (on-false _ (d .here) (on-false _ (d .not-busy)
       (on-false _ (le-ltb _ _ (d .left)) (on-false _ (lt-leb _ _ (d .row)) (on-false _ (le-ltb _ _ (d .boxes)) refl))))))
 
 -- which refusal applies

@@ -1,17 +1,18 @@
 -- A new floor is lawful, and every step keeps a lawful floor lawful.
-use Prim.Native.Nat.{ℕ, zero, suc, _≤_, _<_}
+use Prim.Native.Nat.{ℕ, _≤_, _<_}
 use native.Mathlib.Omega.{arith}
 use mathlib.Core.Path.{_≡_, refl, ap, subst, _∙_}
 use mathlib.Core.Logic.{inl, inr}
 use mathlib.Core.List.{List, []}
-use lib.ListN.{length, getD}
+use lib.ListN.{length}
 use Rattle.suits.specs.declared.Suit.{Suit}
 use Rattle.base.specs.Numbers.{rankOf}
 use Rattle.register.specs.Register.{box0, registerOf}
 use Rattle.register.specs.declared.Department.{Department}
 use Rattle.register.specs.declared.Department.the-variants.{Sails, Canvas}
 use Rattle.attempts.specs.Rows.{newRow, rowDepartment}
-use Rattle.floor.specs.Claims.{Sound, Lengths}
+use Rattle.runs.proofs.ListLaws.{state-keeps}
+use Rattle.floor.specs.Soundness.{Sound, Lengths}
 use Rattle.floor.specs.Floors.{rowAt, departmentAt, shareOf, highestOf, InUse, emptyFloor, newFloorOf}
 use Rattle.floor.specs.Effects.{rowTaken, shareAfter, afterBegin}
 use Rattle.floor.specs.declared.Share.{Share}
@@ -25,7 +26,10 @@ use Rattle.base.proofs.Cases.{clash}
 use Rattle.base.proofs.Stores.{getD-same}
 use Rattle.base.specs.Claims.{Sizes}
 use Rattle.floor.proofs.StepCases.{StepCase, turned, began, served, heard, issued, decided, aborted, stopped, left, returned, apply-case}
-use Rattle.floor.proofs.Keeps.{apply-keeps, apply-lengths, empty-sound, empty-lengths, empty-unused, told-at, new-floor-by, row-stored}
+use Rattle.floor.proofs.Keeps.{apply-keeps}
+use Rattle.floor.proofs.LengthLaws.{apply-lengths}
+use Rattle.floor.proofs.EmptyFloors.{empty-sound, empty-lengths, empty-unused, told-at, new-floor-by}
+use Rattle.floor.proofs.StoredLaws.{row-stored}
 use Rattle.floor.proofs.BoxLaws.{box-grown}
 use Rattle.floor.proofs.RowLaws.{apply-share, apply-in-use, row-same}
 use Rattle.floor.proofs.StationLaws.{last-from, department-stays}
@@ -126,9 +130,7 @@ step-lawful f r = apply-lawful f (commandOf r)
 
 -- after any steps of a list, refused ones too
 pub after-lawful : (f : Floor) (l : List (List ℕ)) (i : ℕ) → Lawful f → Lawful (floorAt f l i)
-unfolding floorAt
-after-lawful f l zero y = y
-after-lawful f l (suc i) y = step-lawful (floorAt f l i) (getD l i []) (after-lawful f l i y)
+after-lawful f l i y = state-keeps [] _ Lawful step-lawful f l y i
 
 empty-lawful : (n m : ℕ) (l : List ℕ) → Sizes n m → Lawful (emptyFloor n m l)
 empty-lawful n m l z = record {

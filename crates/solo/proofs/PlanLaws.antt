@@ -16,9 +16,11 @@ use Rattle.requests.specs.declared.Phase.the-variants.{Read, Write}
 use Rattle.commands.specs.Commands.{commandOf}
 use Rattle.commands.specs.declared.Command.the-variants.{Begin}
 use Rattle.commands.proofs.Encodings.{decode-encode}
+use Rattle.plans.specs.Plans.{exchanges}
+use Rattle.plans.proofs.ExchangeLaws.{exchanges-length}
 use Rattle.floor.specs.Effects.{rowTaken}
 use Rattle.floor.specs.declared.Floor.{Floor}
-use Rattle.solo.specs.Plan.{roundOf, answeringFrom, lowest, askedOf, exchange, exchanges, beginOf, exchangesOf, planOf}
+use Rattle.solo.specs.Plan.{roundOf, answeringFrom, lowest, askedOf, beginOf, exchangesOf, planOf}
 
 -- the plan begins with this station and this revision
 pub plan-begins : (f : Floor) (s : ℕ) (v : Suit) → commandOf (beginOf f s v) ≡ Begin s (roundOf f s) v
@@ -49,11 +51,6 @@ answering-most (suc k) b boxes =
     by-test (λ (l : List ℕ). length l ≤ suc k) _ _ _ (λ _. omega arith) (λ _. omega arith)
 
 -- two steps with each box
-pub exchanges-length : (p : Phase) (a : ℕ) (bs : List ℕ) → length (exchanges p a bs) ≡ 2 * length bs
-unfolding exchanges exchange
-exchanges-length p a [] = refl
-exchanges-length p a (b ∷ bs) = omega (arith, exchanges-length p a bs)
-
 pub exchanges-most : (p : Phase) (a q n : ℕ) (boxes : List StorageBox) → length (exchanges p a (lowest q boxes n)) ≤ 2 * n
 unfolding lowest
 exchanges-most p a q n boxes =

@@ -1,15 +1,14 @@
--- The buffer that the plan is written into: what stands at its front, store by store, record by record and box by box.
+-- The buffer that the plan is written into: what stands at its front, box by box.
 use Prim.Native.Nat.{ℕ, zero, suc, _+_, _-_, _*_, _%_, _<_, _≤_}
 use native.Mathlib.Omega.{arith}
-use native.Mathlib.Nat.{add-zero, sub-zero}
-use native.Mathlib.Numerals.{add-one}
+use native.Mathlib.Nat.{sub-zero}
 use mathlib.Core.Path.{_≡_, refl, sym, ap, _∙_}
 use mathlib.Core.Bool.{true, false}
-use mathlib.Core.List.{List, [], _∷_, _++_, flatten, append-assoc, append-nil}
-use lib.ListN.{length, getD, take, set, length-set}
-use lib.Seq.{take-all, take-suc, take-suc-set}
+use mathlib.Core.List.{List, [], _++_, flatten, append-assoc, append-nil}
+use lib.ListN.{length, getD, take}
 use Rattle.suits.specs.declared.Suit.{Suit}
 use Rattle.base.specs.Numbers.{quorum}
+use Rattle.base.specs.Bytes.{bytesPut}
 use Rattle.base.specs.Records.{recordsIn}
 use Rattle.base.proofs.RecordLaws.{joined-append, joined-length, all-eight, records-again}
 use Rattle.register.specs.Register.{box0}
@@ -18,53 +17,21 @@ use Rattle.requests.specs.declared.Phase.{Phase}
 use Rattle.requests.specs.declared.Phase.the-variants.{Read, Write}
 use Rattle.commands.specs.Commands.{encodeOf}
 use Rattle.commands.specs.declared.Command.the-variants.{Begin}
+use Rattle.plans.specs.Plans.{exchange, exchanges}
+use Rattle.plans.proofs.ExchangeLaws.{exchange-taken}
 use Rattle.floor.specs.Runs.{runOf, drivenIn}
-use Rattle.floor.specs.Claims.{Sound}
+use Rattle.floor.specs.Soundness.{Sound}
 use Rattle.floor.specs.Floors.{departmentAt}
 use Rattle.floor.specs.Effects.{rowTaken}
 use Rattle.floor.proofs.FreeLaws.{next-most}
 use Rattle.floor.specs.declared.Floor.{Floor}
 use Rattle.floor.specs.declared.Ran.{Ran}
-use Rattle.floor.specs.declared.Until.the-variants.{End}
+use Rattle.runs.specs.declared.Until.the-variants.{End}
 use Rattle.floor.proofs.SoundLaws.{sound-holds}
 use Rattle.floor.proofs.RunCalls.{run-0, driven-whole}
-use Rattle.solo.specs.Plan.{roundOf, answeringFrom, lowest, askedOf, exchange, exchanges, beginOf, exchangesOf}
+use Rattle.solo.specs.Plan.{roundOf, answeringFrom, lowest, askedOf, beginOf, exchangesOf}
 use Rattle.solo.proofs.PlanLaws.{one-box, answering-skip, answering-take, answering-none}
 use Rattle.solo.proofs.PlanRecords.{plan-rest}
-
--- l is the list s with the first i bytes of a record r copied behind the first `at`
-pub record Copied (s : List ℕ) (at : ℕ) (r l : List ℕ) (i : ℕ) : Type 0 where
-  pub within : i ≤ 8
-  pub same : length l ≡ length s
-  pub bytes : take (at + i) l ≡ take at s ++ take i r
-
-pub copied-none : (s : List ℕ) (at : ℕ) (r : List ℕ) → Copied s at r s 0
-copied-none s at r = record { within = omega arith; same = refl; bytes = ap (λ (n : ℕ). take n s) (add-zero at) ∙ sym (append-nil (take at s)) }
-
-module _ {s : List ℕ} {at : ℕ} {r l : List ℕ} {i : ℕ} (c : Copied s at r l i) (eight : length r ≡ 8) where
-  pub copied-more : at + 8 ≤ length s → i < 8 → Copied s at r (set l (at + i) (getD r i 0)) (i + 1)
-  copied-more h k =
-      let next : at + (i + 1) ≡ suc (at + i) = omega arith in
-      let here : at + i < length l = omega (arith, c .same) in
-      let there : i < length r = omega arith in
-      record {
-        within = omega arith;
-        same = simp length-set (c .same);
-        bytes = rw (next, take-suc-set l (at + i) (getD r i 0), c .bytes, add-one i, take-suc r i 0) (append-assoc (take at s) (take i r) (getD r i 0 ∷ []));
-      }
-
-  pub copied-all : 8 ≤ i → take (at + 8) l ≡ take at s ++ r
-  copied-all h =
-      let e : i ≡ 8 = omega (arith, c .within) in
-      rw e at (c .bytes) ∙ ap (λ (x : List ℕ). take at s ++ x) (take-all 8 r (omega arith))
-
--- two records, one behind the other
-pub copied-two : (s l l' : List ℕ) (at : ℕ) (r r' : List ℕ) → take (at + 8) l ≡ take at s ++ r → take (at + 8 + 8) l' ≡ take (at + 8) l ++ r'
-    → take (at + 16) l' ≡ take at s ++ flatten (r ∷ r' ∷ [])
-unfolding flatten
-copied-two s l l' at r r' e e' =
-    let both : at + 16 ≡ at + 8 + 8 = omega arith in
-    rw (both, e', e, append-nil r') (append-assoc (take at s) r r')
 
 -- the exchanges with the first q that answer, of k boxes from box b on
 abbrev exchangesFrom : ℕ → ℕ → List StorageBox → Phase → ℕ → ℕ → List (List ℕ)
@@ -117,16 +84,16 @@ module _ {s : List ℕ} {at n : ℕ} {p : Phase} {a : ℕ} {boxes : List Storage
         let o : left ≡ 0 = omega arith in
         rw (el, ee, ef) (record { within = omega arith; same = w .same; room = w .room; bytes = rw (o, phase-enough) (rw (o, phase-enough) at (w .bytes)) })
 
-    pub box-asked : {x : List ℕ} → getD boxes b box0 .away ≡ false → 0 < left → l' ≡ x → length x ≡ length l
-        → take (end + 16) x ≡ take end l ++ flatten (exchange p a b) → end' ≡ end + 16 → left' ≡ left - 1 → Writing s at n p a boxes l' end' left' (b + 1)
+    pub box-asked : {x : List ℕ} → getD boxes b box0 .away ≡ false → 0 < left → end + 16 ≤ length l → l' ≡ x → length x ≡ length l
+        → x ≡ bytesPut l end (flatten (exchange p a b)) → end' ≡ end + 16 → left' ≡ left - 1 → Writing s at n p a boxes l' end' left' (b + 1)
     unfolding flatten exchange
-    box-asked o z el es eb ee ef =
+    box-asked o z fits el es eb ee ef =
         rw (el, ee, ef) (record {
           within = omega arith;
           same = es ∙ w .same;
           room = omega (arith, w .room);
           bytes =
-              rw (eb, append-assoc (take end l))
+              rw (eb, exchange-taken l end p a b fits, append-assoc (take end l))
               (rw (one-box n b h, phase-take (n - (b + 1)) b boxes p a left (left - 1) (omega arith) o) at (w .bytes));
         })
 

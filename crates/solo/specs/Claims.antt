@@ -20,7 +20,7 @@ use Rattle.floor.specs.Sound.{soundOf}
 use Rattle.floor.specs.Effects.{rowTaken}
 use Rattle.floor.specs.Step.{stepOf}
 use Rattle.floor.specs.Runs.{floorAt, saidAt}
-use Rattle.floor.specs.Claims.{Sound, Lengths}
+use Rattle.floor.specs.Soundness.{Sound, Lengths}
 use Rattle.floor.specs.declared.Floor.{Floor}
 use Rattle.solo.specs.Plan.{highestBegun, roundOf, answering, beginOf, planOf}
 use Rattle.solo.specs.Solo.{soloRefusal, turnedAway, soloOf, soloNumber, soloValue}

@@ -1,5 +1,5 @@
 -- Document 01, "Solo finish": the round that it picks, the boxes that it asks, and the list of its steps.
-use Prim.Native.Nat.{ℕ, zero, suc, _+_, _-_, _/_}
+use Prim.Native.Nat.{ℕ, zero, suc, _+_}
 use mathlib.Core.List.{List, [], _∷_, _++_}
 use lib.ListN.{getD, take}
 use Rattle.suits.specs.declared.Suit.{Suit}
@@ -7,10 +7,10 @@ use Rattle.base.specs.Choice.{if_then_else_}
 use Rattle.base.specs.Numbers.{quorum}
 use Rattle.register.specs.Register.{box0}
 use Rattle.register.specs.declared.StorageBox.{StorageBox}
-use Rattle.requests.specs.declared.Phase.{Phase}
 use Rattle.requests.specs.declared.Phase.the-variants.{Read, Write}
 use Rattle.commands.specs.Commands.{encodeOf}
-use Rattle.commands.specs.declared.Command.the-variants.{Begin, Serve, Deliver}
+use Rattle.commands.specs.declared.Command.the-variants.{Begin}
+use Rattle.plans.specs.Plans.{roundAbove, exchanges}
 use Rattle.floor.specs.Floors.{departmentAt, highestOf}
 use Rattle.floor.specs.Effects.{rowTaken}
 use Rattle.floor.specs.declared.Floor.{Floor}
@@ -19,10 +19,6 @@ use Rattle.floor.specs.declared.Floor.{Floor}
 -- Wish 6: "the solo finish outranks its own only", the department of its station.
 abbrev pub highestBegun : (f : Floor) (station : ℕ) → ℕ
 highestBegun f station = highestOf f (departmentAt f station)
-
--- the smallest round of at least 1 whose rank for that station passes h
-unfoldable pub roundAbove : (h station : ℕ) → ℕ
-roundAbove h station = (h - station) / 16 + 1
 
 -- "it picks the smallest round, at least 1, whose rank passes every rank begun on the floor"; wish 5: "The solo finish goes by the highest
 -- rank begun alone". That it is the smallest is the claim `Smallest` in specs/Claims
@@ -47,15 +43,6 @@ lowest q boxes n = take q (answeringFrom n 0 boxes)
 -- those of a floor: a quorum
 abbrev pub askedOf : (f : Floor) → List ℕ
 askedOf f = lowest (quorum (f .n)) (f .boxes) (f .n)
-
--- the serve and the delivery of attempt a's read or write at box b, as 8-byte records
-unfoldable pub exchange : (phase : Phase) (a b : ℕ) → List (List ℕ)
-exchange phase a b = encodeOf (Serve phase a b) ∷ encodeOf (Deliver phase a b) ∷ []
-
--- "one box after the other"
-unfoldable pub exchanges : (phase : Phase) (a : ℕ) (boxes : List ℕ) → List (List ℕ)
-exchanges phase a [] = []
-exchanges phase a (b ∷ bs) = exchange phase a b ++ exchanges phase a bs
 
 -- "It begins, serves and delivers the read at the q lowest-numbered answering boxes, one box after the other, then the write
 -- likewise": the record of its begin, and those behind it. The attempt is the row that a begin of the station takes on the floor handed in, and the boxes

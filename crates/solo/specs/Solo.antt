@@ -13,7 +13,7 @@ use Rattle.floor.specs.Sound.{soundOf}
 use Rattle.floor.specs.Effects.{rowTaken}
 use Rattle.floor.specs.Runs.{runOf}
 use Rattle.floor.specs.declared.Floor.{Floor}
-use Rattle.floor.specs.declared.Until.the-variants.{End}
+use Rattle.runs.specs.declared.Until.the-variants.{End}
 use Rattle.floor.specs.declared.Ran.{Ran}
 use Rattle.solo.specs.Plan.{roundOf, answering, beginOf, exchangesOf}
 use Rattle.solo.specs.declared.Solo.{Solo}

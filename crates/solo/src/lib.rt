@@ -12,9 +12,10 @@ ghost use Rattle.commands.specs.Outcomes.{numberOf, valueOf};
 ghost use Rattle.floor.specs.Floors.{departmentAt};
 ghost use Rattle.floor.specs.Effects.{rowTaken};
 ghost use Rattle.floor.specs.Runs.{runOf};
-ghost use Rattle.floor.specs.Claims.{Sound};
-ghost use Rattle.floor.specs.declared.Until.the-variants.{End};
-ghost use Rattle.solo.specs.Plan.{roundAbove, roundOf, answeringFrom, lowest, exchange, exchanges, beginOf, exchangesOf};
+ghost use Rattle.floor.specs.Soundness.{Sound};
+ghost use Rattle.runs.specs.declared.Until.the-variants.{End};
+ghost use Rattle.plans.specs.Plans.{exchanges};
+ghost use Rattle.solo.specs.Plan.{roundOf, answeringFrom, lowest, beginOf, exchangesOf};
 ghost use Rattle.solo.specs.Solo.{frontRefusal, turnedAway, ofRun, soloOf, soloNumber, soloValue};
 use commands::Command;
 use commands::Outcome;
@@ -50,17 +51,6 @@ fn department_at(f: Floor, s: u8) -> Department
     }
     let station = f.stations[s as usize];
     station.department
-}
-
-// The smallest round of at least 1 whose rank for the station passes h.
-fn round_above(h: u32, s: u8) -> u32
-    ensures { λ r. ⌜ r ≡ roundAbove h s ⌝ }
-{
-    let own = s as u32;
-    if h < own {
-        return 1;
-    }
-    ((h - own) >> 4) + 1
 }
 
 // How many of the first n boxes are not away.
@@ -120,29 +110,8 @@ fn refusal(f: Floor, s: u8, round: u32, next: u8) -> u8
     0
 }
 
-// Stores a record from a place on.
-fn put_record(out: &mut [u8], at: usize, r: [u8; 8])
-    requires { ⌜ at + 8 ≤ length (now out) ⌝ }
-    ensures { λ _. ⌜ take (at + 8) (now (out .exit)) ≡ take at (now (out .entry)) ++ r ⌝ }
-{
-    let mut i: usize = 0;
-    while i < 8 {
-        out[at + i] = r[i];
-        i += 1;
-    }
-}
-
-// The same for the records of two steps: attempt a's read or write is served at box b, and its answer is delivered.
-fn put_exchange(out: &mut [u8], at: usize, p: Phase, a: u8, b: u8)
-    requires { ⌜ at + 16 ≤ length (now out) ⌝ }
-    ensures { λ _. ⌜ take (at + 16) (now (out .exit)) ≡ take at (now (out .entry)) ++ flatten (exchange p a b) ⌝ }
-{
-    put_record(out, at, commands::encode(Command::Serve(p, a, b)));
-    put_record(out, at + 8, commands::encode(Command::Deliver(p, a, b)));
-}
-
-// The same for a phase: the exchanges of attempt a with the lowest-numbered of the first n boxes that are not away, a quorum of
-// them, one box after the other. It returns the place behind them.
+// Stores the records of a phase from a place on: the exchanges of attempt a with the lowest-numbered of the first n boxes that are not
+// away, a quorum of them, one box after the other. It returns the place behind them.
 fn put_phase(out: &mut [u8], at: usize, boxes: [StorageBox; 9], n: u8, p: Phase, a: u8) -> usize
     requires { ⌜ (n ≤ 9) × (at + 16 * quorum n ≤ length (now out)) ⌝ }
     ensures within { λ r. ⌜ r ≤ at + 16 * quorum n ⌝ }
@@ -156,7 +125,7 @@ fn put_phase(out: &mut [u8], at: usize, boxes: [StorageBox; 9], n: u8, p: Phase,
         if !x.away {
             if 0 < left {
                 left -= 1;
-                put_exchange(out, end, p, a, b);
+                plans::put_exchange(out, end, p, a, b);
                 end += 16;
             }
         }
@@ -198,7 +167,7 @@ pub fn solo_finish(f: Floor, s: u8, v: Suit) -> Solo
     let d = department_at(f, s);
     let shares = f.shares;
     let share = steps::share_of(shares, d);
-    let round = round_above(share.highest, s);
+    let round = plans::round_above(share.highest, s);
     let next = steps::next_row(f, d);
     let e = refusal(f, s, round, next);
     if e != 0 {

@@ -1,12 +1,12 @@
-// Wishes 5, 6 and 8 of document 02: when a row is free, and the row that a begin takes in its department. These are handed one row at a time: the loop that looks
-// through the rows of a floor stands where the floor is, so that no floor is moved for it.
+// Wishes 5, 6 and 8 of document 02: when a row is free, and the row that a begin takes in its department. These are handed one row at a time:
+// the loop that looks through the rows of a floor stands where the floor is, so that no floor is moved for it.
 ghost use mathlib.Core.Path.{_≡_};
 ghost use Prim.Native.Nat.{_≤_};
-ghost use Rattle.floor.specs.Free.{stillServed, allServed, freeIn, lowerIn, betterIn, startOf, firstOf};
+ghost use Rattle.floor.specs.Free.{stillServed, allServed, freeIn, betterIn, startOf, firstOf};
 use attempts::Row;
 use attempts::State;
 use commands::Command;
-use floor::Lowest;
+use places::Lowest;
 
 // One box more.
 fn still_served(before: bool, waits: bool) -> bool
@@ -44,22 +44,12 @@ fn free(w: Row, state: State, n: u8, a: u8) -> bool
     all_served(w, n)
 }
 
-// The rank is smaller than that of the row found so far, if there was one.
-fn lower(x: Lowest, rank: u32) -> bool
-    ensures { λ r. ⌜ r ≡ lowerIn x rank ⌝ }
-{
-    if x.row < 128 {
-        return rank < x.rank;
-    }
-    true
-}
-
 // The better of the row found so far and the row a.
 pub(crate) fn better(x: Lowest, w: Row, state: State, n: u8, a: u8) -> Lowest
     requires { ⌜ n ≤ 9 ⌝ }
     ensures { λ r. ⌜ r ≡ betterIn x w state n a ⌝ }
 {
-    if !lower(x, w.rank) {
+    if !places::lower(128, x, w.rank) {
         return x;
     }
     if free(w, state, n, a) {

@@ -6,10 +6,9 @@
 ghost use mathlib.Core.Path.{_≡_};
 ghost use mathlib.Core.Bool.{true, false};
 ghost use lib.ListN.{length};
-ghost use lib.Dec.{leb};
 ghost use Prim.Native.Nat.{_+_, _≤_};
 ghost use Rattle.base.specs.Choice.{if_then_else_};
-ghost use Rattle.base.specs.Records.{recordAt, recordsIn};
+ghost use Rattle.base.specs.Records.{recordsIn};
 ghost use Rattle.commands.specs.Commands.{commandOf};
 ghost use Rattle.commands.specs.Outcomes.{numberOf, valueOf};
 ghost use Rattle.register.specs.Register.{ofDepartment};
@@ -17,25 +16,26 @@ ghost use Rattle.floor.specs.Floors.{departmentFrom, stationsTold, emptyFloor, 
 ghost use Rattle.floor.specs.Sound.{stationsBelow, shareSound, soundOf};
 ghost use Rattle.floor.specs.Free.{nextRow};
 ghost use Rattle.floor.specs.Step.{applyOf, stepOf, refusalOf, valueSaid};
-ghost use Rattle.floor.specs.Runs.{stopsAt, runFrom, refusalBy, playedIn, drivenIn};
-ghost use Rattle.floor.specs.Claims.{Sound};
+ghost use Rattle.floor.specs.Departments.{belonging, departmentWith};
+ghost use Rattle.floor.specs.Runs.{runFrom, playedIn, drivenIn};
+ghost use Rattle.floor.specs.Soundness.{Sound};
 use attempts::Decision;
 use attempts::State;
 use attempts::Station;
 use commands::Command;
 use commands::Outcome;
 use floor::Floor;
-use floor::Lowest;
 use floor::NewFloor;
 use floor::Played;
 use floor::Ran;
 use floor::Share;
 use floor::Shares;
 use floor::Stepped;
-use floor::Until;
+use places::Lowest;
 use register::Department;
 use register::Register;
 use register::StorageBox;
+use runs::Until;
 
 mod free;
 
@@ -246,44 +246,19 @@ pub fn next_row(f: Floor, d: Department) -> u8
     next_sound(f, d)
 }
 
-// A run ends behind a step that said so.
-fn stops(until: Until, o: Outcome) -> bool
-    ensures { λ r. ⌜ r ≡ stopsAt until o ⌝ }
+// The department that the step belongs to, where the station that it names is of the department `own`; of a step that both share `own`.
+fn department_in(own: Department, c: Command) -> Department
+    ensures { λ r. ⌜ r ≡ departmentWith own (belonging own c) ⌝ }
 {
-    if commands::refused(o) {
-        return true;
+    match c {
+        Command::Begin(_, _, _) => own,
+        Command::Serve(_, a, _) => attempts::department_of(a),
+        Command::Deliver(_, a, _) => attempts::department_of(a),
+        Command::Stop(_) => own,
+        Command::Leave(_) => own,
+        Command::Return(_) => own,
+        Command::Malformed => own,
     }
-    match until {
-        Until::Refusal => false,
-        Until::End => commands::ends(o),
-    }
-}
-
-// The step was the last of its run: no record is left, or the run ends behind what it said.
-fn over(left: usize, until: Until, o: Outcome) -> bool
-    ensures { λ r. ⌜ r ≡ if leb left 0 then true else stopsAt until o ⌝ }
-{
-    if left <= 0 {
-        return true;
-    }
-    stops(until, o)
-}
-
-// The record that starts at a place.
-fn record_at(s: &[u8], at: usize) -> [u8; 8]
-    requires { ⌜ at + 8 ≤ length (now s) ⌝ }
-    ensures { λ r. ⌜ r ≡ recordAt (now (s .entry)) at ⌝ }
-{
-    [
-        s[at],
-        s[at + 1],
-        s[at + 2],
-        s[at + 3],
-        s[at + 4],
-        s[at + 5],
-        s[at + 6],
-        s[at + 7],
-    ]
 }
 
 // A command on a sound floor, and then the steps of the records behind it.
@@ -295,10 +270,10 @@ fn run_sound(mut f: Floor, first: Command, records: &[u8], until: Until) -> Ran
     let mut c = first;
     let mut k: usize = 0;
     loop {
-        let near = parts::station_place(0, c) as usize;
+        let near = places::station_place(16, 0, c) as usize;
         let named = f.stations[near];
         let own = named.department;
-        let d = parts::department_in(own, c);
+        let d = department_in(own, c);
         let shares = f.shares;
         let share = share_of(shares, d);
         let first = attempts::first_row(d);
@@ -313,10 +288,10 @@ fn run_sound(mut f: Floor, first: Command, records: &[u8], until: Until) -> Ran
             passed += 1;
         }
         let next = found.row;
-        let i = parts::row_place(next, c) as usize;
-        let b = parts::box_place(c) as usize;
+        let i = places::row_place(128, next, c) as usize;
+        let b = places::box_place(9, c) as usize;
         let row = f.rows[i];
-        let j = parts::station_place(row.station, c) as usize;
+        let j = places::station_place(16, row.station, c) as usize;
         let storage = f.boxes[b];
         let register = register::register_of(storage, d);
         let station = f.stations[j];
@@ -334,7 +309,8 @@ fn run_sound(mut f: Floor, first: Command, records: &[u8], until: Until) -> Ran
         );
         let y = parts::change(x, c);
         let o = y.outcome;
-        if commands::refused(o) {
+        let refused = commands::refused(o);
+        if refused {
             return Ran {
                 floor: f,
                 accepted: k,
@@ -355,30 +331,17 @@ fn run_sound(mut f: Floor, first: Command, records: &[u8], until: Until) -> Ran
         f.boxes[b] = storage2;
         f.stations[j] = station2;
         f.shares = shares2;
-        if over(count - k, until, o) {
+        let ends = commands::ends(o);
+        if runs::over(count - k, until, refused, ends) {
             return Ran {
                 floor: f,
                 accepted: k + 1,
                 outcome: o,
             };
         }
-        c = commands::decode(record_at(records, 8 * k));
+        c = commands::decode(runs::record_at(records, k));
         k += 1;
     }
-}
-
-// What turns a run back before its first step: 6, then 5, 0 where neither applies. Whether the floor is sound is handed in, so that no
-// floor is moved for it.
-fn run_refusal(right: bool, size: usize) -> u8
-    ensures { λ r. ⌜ r ≡ refusalBy right size ⌝ }
-{
-    if !right {
-        return 6;
-    }
-    if size & 7 != 0 {
-        return 5;
-    }
-    0
 }
 
 // Takes the steps of a list of 8-byte records one after the other, up to the first that is refused.
@@ -386,7 +349,7 @@ pub fn run(f: Floor, records: &[u8]) -> Played
     ensures { λ r. ⌜ r ≡ playedIn f (now (records .entry)) ⌝ }
 {
     let right = sound(f);
-    let refusal = run_refusal(right, records.len());
+    let refusal = runs::run_refusal(right, records.len());
     if refusal != 0 {
         return Played {
             floor: f,
@@ -401,7 +364,7 @@ pub fn run(f: Floor, records: &[u8]) -> Played
             refusal: 0,
         };
     }
-    let first = commands::decode(record_at(records, 0));
+    let first = commands::decode(runs::record_at(records, 0));
     let ran = run_sound(f, first, &records[8..], Until::Refusal);
     let floor = ran.floor;
     let outcome = ran.outcome;
@@ -419,7 +382,7 @@ pub fn drive(f: Floor, first: [u8; 8], records: &[u8]) -> Ran
     ensures value { λ r. ⌜ valueOf (r .outcome) ≡ valueOf (drivenIn f first (now (records .entry)) .outcome) ⌝ }
 {
     let right = sound(f);
-    let refusal = run_refusal(right, records.len());
+    let refusal = runs::run_refusal(right, records.len());
     if refusal != 0 {
         return Ran {
             floor: f,
@@ -430,23 +393,29 @@ pub fn drive(f: Floor, first: [u8; 8], records: &[u8]) -> Ran
     run_sound(f, commands::decode(first), records, Until::End)
 }
 
-// A single step, handed in as its 8-byte record: a run of one.
-pub fn step(f: Floor, bytes: [u8; 8]) -> Stepped
-    ensures stepped { λ r. ⌜ r ≡ stepOf f bytes ⌝ }
-    ensures number { λ r. ⌜ numberOf (r .outcome) ≡ refusalOf f (commandOf bytes) ⌝ }
-    ensures value { λ r. ⌜ valueOf (r .outcome) ≡ valueSaid f (commandOf bytes) ⌝ }
-{
-    let ran = drive(f, bytes, &[]);
-    let floor = ran.floor;
-    let outcome = ran.outcome;
-    Stepped { floor, outcome }
-}
-
-// The same step on a decoded command.
+// A single step on a decoded command: a run of one.
 pub fn apply(f: Floor, c: Command) -> Stepped
     ensures stepped { λ r. ⌜ r ≡ applyOf f c ⌝ }
     ensures number { λ r. ⌜ numberOf (r .outcome) ≡ refusalOf f c ⌝ }
     ensures value { λ r. ⌜ valueOf (r .outcome) ≡ valueSaid f c ⌝ }
 {
-    step(f, commands::encode(c))
+    if !sound(f) {
+        return Stepped {
+            floor: f,
+            outcome: Outcome::Refused(6),
+        };
+    }
+    let ran = run_sound(f, c, &[], Until::End);
+    let floor = ran.floor;
+    let outcome = ran.outcome;
+    Stepped { floor, outcome }
+}
+
+// The same step, handed in as its 8-byte record.
+pub fn step(f: Floor, bytes: [u8; 8]) -> Stepped
+    ensures stepped { λ r. ⌜ r ≡ stepOf f bytes ⌝ }
+    ensures number { λ r. ⌜ numberOf (r .outcome) ≡ refusalOf f (commandOf bytes) ⌝ }
+    ensures value { λ r. ⌜ valueOf (r .outcome) ≡ valueSaid f (commandOf bytes) ⌝ }
+{
+    apply(f, commands::decode(bytes))
 }

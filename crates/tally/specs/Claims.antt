@@ -11,20 +11,20 @@ use Rattle.tally.specs.Tally.{notAway, tallyOf}
 use Rattle.tally.specs.declared.Tally.{Tally}
 
 -- a box of a run that is not away
-pub record Counts (bs : List StorageBox) (b : StorageBox) : Type 0 where
-  pub member : List·Memᴰ b bs
-  pub going : b .away ≡ false
+pub record Counts (ys : List StorageBox) (y : StorageBox) : Type 0 where
+  pub member : List·Memᴰ y ys
+  pub going : y .away ≡ false
 
 -- the tally of a department as facts
-pub record Tallied (d : Department) (bs : List StorageBox) (t : Tally) : Type 0 where
+pub record Tallied (d : Department) (ys : List StorageBox) (t : Tally) : Type 0 where
   -- "how many have not stopped", wish 8: are not away
-  pub count : t .count ≡ length (notAway bs)
+  pub count : t .count ≡ length (notAway ys)
   -- "the highest write rank among those", of the department's records: none of them has a higher one, and one of them has it
-  pub most : (b : StorageBox) → Counts bs b → registerOf d b .write ≤ t .highest
-  pub reached : 0 < t .count → (b : StorageBox) × (Counts bs b × (registerOf d b .write ≡ t .highest))
+  pub most : (y : StorageBox) → Counts ys y → registerOf d y .write ≤ t .highest
+  pub reached : 0 < t .count → (y : StorageBox) × (Counts ys y × (registerOf d y .write ≡ t .highest))
   -- "a run with none of these, or empty, gives 0 and 0"
-  pub none : ((b : StorageBox) → List·Memᴰ b bs → b .away ≡ true) → (t .count ≡ 0) × (t .highest ≡ 0)
+  pub none : ((y : StorageBox) → List·Memᴰ y ys → y .away ≡ true) → (t .count ≡ 0) × (t .highest ≡ 0)
 
 -- It holds of each department and every run.
 abbrev pub TallyTheorem : Type 0
-TallyTheorem = (d : Department) (bs : List StorageBox) → Tallied d bs (tallyOf d bs)
+TallyTheorem = (d : Department) (ys : List StorageBox) → Tallied d ys (tallyOf d ys)

@@ -13,17 +13,17 @@ use Rattle.tally.specs.declared.Tally.{Tally}
 -- the boxes of a run that are not away, whichever the department. Wish 6: "Only box stops, n and m are shared."
 unfoldable pub notAway : (run : List StorageBox) → List StorageBox
 notAway [] = []
-notAway (b ∷ bs) = if b .away then notAway bs else b ∷ notAway bs
+notAway (y ∷ ys) = if y .away then notAway ys else y ∷ notAway ys
 
 -- the highest write rank of the department's records in some boxes, 0 where there are none
 unfoldable pub highestWrite : (department : Department) (run : List StorageBox) → ℕ
 highestWrite d [] = 0
-highestWrite d (b ∷ bs) = max (highestWrite d bs) (registerOf d b .write)
+highestWrite d (y ∷ ys) = max (highestWrite d ys) (registerOf d y .write)
 
 -- "how many have not stopped and the highest write rank among those": the tally of the department
 unfoldable pub tallyOf : (department : Department) (run : List StorageBox) → Tally
-tallyOf d bs = record { count = length (notAway bs); highest = highestWrite d (notAway bs) }
+tallyOf d ys = record { count = length (notAway ys); highest = highestWrite d (notAway ys) }
 
 -- a tally with one box more
-unfoldable pub oneMore : (department : Department) (b : StorageBox) (t : Tally) → Tally
-oneMore d b t = if b .away then t else record { count = t .count + 1; highest = max (t .highest) (registerOf d b .write) }
+unfoldable pub oneMore : (department : Department) (y : StorageBox) (t : Tally) → Tally
+oneMore d y t = if y .away then t else record { count = t .count + 1; highest = max (t .highest) (registerOf d y .write) }

@@ -5,7 +5,7 @@ use mathlib.Core.List.{flatten}
 use lib.ListN.{take}
 use lib.Seq.{length-take-le}
 use Rattle.floor.specs.Runs.{runOf}
-use Rattle.floor.specs.declared.Until.the-variants.{End}
+use Rattle.runs.specs.declared.Until.the-variants.{End}
 use Rattle.solo.specs.Plan.{beginOf, exchangesOf}
 use Rattle.solo.specs.Solo.{ofRun}
 use Rattle.solo.proofs.CountLaws.{run-short}

@@ -18,7 +18,7 @@ loop-again c =
     let x = c .before .before .before in
     let w = x .before .loop .inv in
     let h = x .loop-test .taken in
-    ⊎-elim (λ t. box-asked w h (not-true _ (t .0 .taken)) (omega (arith, t .1 .taken)) (t .6) (t .3 .kept .0) (t .3 .ensures) (t .7) (t .8))
+    ⊎-elim (λ t. box-asked w h (not-true _ (t .0 .taken)) (omega (arith, t .1 .taken)) (omega (arith, t .1 .taken, w .room, w .same)) (t .6) (t .3 .kept .0) (t .3 .ensures) (t .7) (t .8))
     (⊎-elim (λ t. box-spared w h (omega (arith, t .1 .left)) (t .2) (t .3) (t .4))
     (λ t. box-skipped w h (not-false _ (t .0 .left)) (t .1) (t .2) (t .3)))
     (c .if1 .came)

@@ -13,7 +13,8 @@ use Rattle.floor.specs.Effects.{rowTaken}
 use Rattle.floor.specs.Sound.{soundOf}
 use Rattle.floor.specs.declared.Share.{Share}
 use Rattle.floor.specs.declared.Floor.{Floor}
-use Rattle.solo.specs.Plan.{roundAbove, roundOf}
+use Rattle.plans.specs.Plans.{roundAbove}
+use Rattle.solo.specs.Plan.{roundOf}
 use Rattle.solo.specs.Solo.{soloOf, soloNumber, soloValue}
 use Rattle.solo.specs.declared.Solo.{Solo}
 use Rattle.floor.proofs.SoundLaws.{sound-means}

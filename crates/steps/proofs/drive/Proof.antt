@@ -2,7 +2,8 @@ use borrow.Author.Needs.{needs}
 use mathlib.Core.Path.{_≡_, ap, sym, _∙_}
 use mathlib.Core.Bool.{Bool}
 use lib.ListN.{length}
-use Rattle.floor.specs.Runs.{refusalBy, runRefusal}
+use Rattle.runs.specs.Runs.{refusalBy}
+use Rattle.floor.specs.Runs.{runRefusal}
 use Rattle.commands.specs.Outcomes.{numberOf, valueOf}
 use Rattle.floor.specs.declared.Ran.{Ran}
 use Rattle.floor.proofs.SoundLaws.{sound-means}

@@ -9,7 +9,7 @@ use Rattle.attempts.proofs.RowDepartments.{first-own, first-most, row-own}
 use Rattle.register.specs.declared.Department.{Department}
 use Rattle.floor.specs.Free.{freeBelow, nextRow}
 use Rattle.floor.specs.declared.Share.{Share}
-use Rattle.floor.specs.declared.Lowest.{Lowest}
+use Rattle.places.specs.declared.Lowest.{Lowest}
 use Rattle.floor.proofs.UseLaws.{of-use}
 use Rattle.floor.proofs.SearchLaws.{none-found, found-more}
 use Rattle.steps.proofs.next_sound.Statement.{statement}

@@ -2,7 +2,9 @@ use borrow.Author.Needs.{needs}
 use mathlib.Core.Path.{_≡_, ap, sym, _∙_}
 use mathlib.Core.Bool.{Bool}
 use lib.ListN.{length}
-use Rattle.floor.specs.Runs.{refusalBy, runRefusal}
+use Rattle.runs.specs.Runs.{refusalBy}
+use Rattle.runs.proofs.HandedLaws.{record-there}
+use Rattle.floor.specs.Runs.{runRefusal}
 use Rattle.commands.specs.Commands.{commandOf}
 use Rattle.floor.proofs.SoundLaws.{sound-means}
 use Rattle.floor.proofs.RunCalls.{run-may, played-refused, played-whole, played-none, played-some}
@@ -32,5 +34,5 @@ run-spec =
     (λ c.
     let q = c .before .before in
     let p = q .before .before .before .before in
-    let first = q .before .before .decode .ensures ∙ ap commandOf (q .before .before .before .record-at .ensures) in
+    let first = q .before .before .decode .ensures ∙ ap commandOf (q .before .before .before .record-at .ensures ∙ record-there (p .before .before .before .before .before .args .records .now) 0 _ (p .if2 .left)) in
     played-whole _ _ _ (refusal (p .before .before)) (p .before .if1 .left) _ (played-some _ (p .if2 .left) _ _ _ _ first (q .run-sound .ensures) (c .number .ensures))))

@@ -13,12 +13,15 @@ use Rattle.commands.specs.Commands.{commandOf}
 use Rattle.commands.specs.Outcomes.{isRefused}
 use Rattle.attempts.specs.Rows.{rowDepartment}
 use Rattle.attempts.proofs.RowDepartments.{first-most, row-own}
-use Rattle.parts.specs.Parts.{departmentIn, changeIn}
+use Rattle.places.proofs.PlaceLaws.{place-below}
+use Rattle.parts.specs.Parts.{changeIn}
 use Rattle.parts.specs.declared.Parts.{Parts}
 use Rattle.floor.specs.Floors.{departmentAt, shareOf, InUse}
 use Rattle.floor.specs.Free.{startOf}
+use Rattle.runs.proofs.HandedLaws.{record-there}
+use Rattle.floor.specs.Departments.{belonging, departmentWith}
 use Rattle.floor.specs.Runs.{runFrom}
-use Rattle.floor.specs.Claims.{Sound}
+use Rattle.floor.specs.Soundness.{Sound}
 use Rattle.floor.specs.declared.Share.{Share}
 use Rattle.floor.proofs.UseLaws.{of-use}
 use Rattle.floor.proofs.SearchLaws.{Looking, looking-starts, looking-on, looking-ends, looking-full}
@@ -40,7 +43,8 @@ Inv-loop2 records until f count c k near d shares share first found₀ passed₀
 abbrev μ-loop2 : tie.MeasureT-loop2
 μ-loop2 records until f count c k near d shares share first found₀ passed₀ found passed = 64 - passed
 
--- Places of a turn: its head, where the department's first row is known, where the step's change is known, and behind its stores.
+-- Places of a turn: its head, where the department's first row is known, where the step's change is known, behind its stores, and where it is
+-- known whether it was the last.
 abbrev Head : Type 0
 Head = tie.At-loop Inv-loop2 μ-loop2 Inv-loop μ-loop
 
@@ -53,6 +57,9 @@ Changing = tie.After-change Inv-loop2 μ-loop2 Inv-loop μ-loop
 abbrev Storing : Type 0
 Storing = tie.After-shares-with Inv-loop2 μ-loop2 Inv-loop μ-loop
 
+abbrev Ending : Type 0
+Ending = tie.After-over Inv-loop2 μ-loop2 Inv-loop μ-loop
+
 abbrev home : Owning → Head
 home x = x .before .before .before .before .before .before
 
@@ -64,6 +71,9 @@ head x = home (owning x)
 
 abbrev changing : Storing → Changing
 changing x = x .before .before .before .before .before .before .before .before
+
+abbrev storing : Ending → Storing
+storing x = x .before .before
 
 -- a row of the department that is looked at has a station, since all 64 are in use
 looked-at : (x : Owning) (k a : ℕ) → k < 64 → a ≡ x .first-row .result + k → 64 ≤ shareOf (x .before .before .before .department-in .result) (home x .loop .f) .used → InUse (home x .loop .f) a
@@ -79,31 +89,36 @@ turn x =
     let d = o .before .before .before .department-in in
     record {
       sound = head x .loop .inv .1;
-      department = d .ensures ∙ ap (λ (k : ℕ). departmentIn (departmentAt (head x .loop .f) k) (head x .loop .c)) (o .before .before .before .before .before .station-place .ensures .0);
+      department = d .ensures ∙ ap (λ (k : ℕ). let own = departmentAt (head x .loop .f) k in departmentWith own (belonging own (head x .loop .c))) (o .before .before .before .before .before .station-place .ensures);
       taken = let y = x .before .before .before .before .before .before .before .before .before .before in looking-ends _ _ _ _ _ (y .loop2 .inv .0) (omega (arith, x .before .before .before .before .before .before .before .before .before .loop2-test .left)) (y .loop2 .inv .1);
-      row = x .before .before .before .before .before .before .before .before .row-place .ensures .0;
-      storage = x .before .before .before .before .before .before .before .box-place .ensures .0;
-      station = x .before .before .before .before .before .station-place2 .ensures .0;
+      row = x .before .before .before .before .before .before .before .before .row-place .ensures;
+      storage = x .before .before .before .before .before .before .before .box-place .ensures;
+      station = x .before .before .before .before .before .station-place2 .ensures;
       change =
           let g =
-          x .before .gathered .ensures
-          ∙ gathered-at (head x .loop .f) (d .result) _ _ _ _ _ _ _ (o .first-row .ensures) (o .before .share-of .ensures) (x .before .before .before .register-of .ensures) in
-          chosen _ (le-leb _ _ (subst (λ (p : Parts). p .n ≤ 9) (sym g) (head x .loop .inv .1 .box-most))) (x .change .ensures)
-          ∙ ap (λ (p : Parts). changeIn p (head x .loop .c)) g;
+          gathered-at (head x .loop .f) (d .result) _ _ _ _ _ _ _ (x .before .gathered .result) (o .first-row .ensures) (o .before .share-of .ensures)
+          (x .before .before .before .register-of .ensures) (x .before .gathered .ensures) in
+          _∙_ {b = changeIn (x .before .gathered .result) (head x .loop .c)}
+          (chosen _ (le-leb _ _ (subst (λ (p : Parts). p .n ≤ 9) (sym g) (head x .loop .inv .1 .box-most))) (x .change .ensures))
+          (ap (λ (p : Parts). changeIn p (head x .loop .c)) g);
     }
 
 -- the step was refused, or accepted
 turned-back : (c : tie.Then1 Inv-loop2 μ-loop2 Inv-loop μ-loop) → isRefused (c .before .before .change .result .outcome) ≡ true
 turned-back c = sym (c .before .refused .ensures) ∙ c .if1 .taken
 
+abbrev asked : Storing → tie.After-refused Inv-loop2 μ-loop2 Inv-loop μ-loop
+asked x = x .before .before .before .before .before .before .before
+
 accepted : (x : Storing) → isRefused (changing x .change .result .outcome) ≡ false
-accepted x = sym (x .before .before .before .before .before .before .before .refused .ensures) ∙ x .before .before .before .before .before .before .if1 .left
+accepted x = sym (asked x .refused .ensures) ∙ x .before .before .before .before .before .before .if1 .left
 
 -- it was not the last: a record is left
-left : (c : tie.Else2 Inv-loop2 μ-loop2 Inv-loop μ-loop) → head (changing (c .before .before)) .loop .k < length (head (changing (c .before .before)) .before .before .args .records .now) / 8
+left : (c : tie.Else2 Inv-loop2 μ-loop2 Inv-loop μ-loop) → head (changing (storing (c .before))) .loop .k < length (head (changing (storing (c .before))) .before .before .args .records .now) / 8
 left c =
-    let x = c .before .before in
-    turn-left (turn (changing x)) (accepted x) _ _ (x .before .box-with .ensures) (x .shares-with .ensures) _ _ _ (sym (c .before .over .ensures) ∙ c .if2 .left)
+    let x = storing (c .before) in
+    turn-left (turn (changing x)) (accepted x) _ _ (x .before .box-with .ensures) (x .shares-with .ensures) _ _ _ _ _ _ (asked x .refused .ensures) (c .before .before .ends .ensures)
+    (c .before .over .ensures) (c .if2 .left)
 
 pub run-sound-spec : {M : Type 1} → statement M
 run-sound-spec =
@@ -117,7 +132,7 @@ run-sound-spec =
     (λ c κs. search needs)
     (λ c. search needs)
     (λ c. search needs)
-    (λ c. omega (arith, c .station-place .ensures .1))
+    (λ c. omega (arith, place-below _ _ _ (c .station-place .ensures) (omega arith)))
     (λ c κs. search needs)
     (λ c κs. search needs)
     (λ c κs. search needs)
@@ -151,48 +166,50 @@ run-sound-spec =
     (λ c. search needs)
     (λ c κs. search needs)
     (λ c. search needs)
-    (λ c. omega (arith, c .before .row-place .ensures .1))
-    (λ c. omega (arith, c .before .row-place .ensures .1))
+    (λ c. omega (arith, place-below _ _ _ (c .before .row-place .ensures) (omega arith)))
+    (λ c. omega (arith, place-below _ _ _ (c .before .row-place .ensures) (omega arith)))
     (λ c κs. search needs)
     (λ c. search needs)
-    (λ c. omega (arith, c .before .before .box-place .ensures .1))
-    (λ c. omega (arith, c .before .before .box-place .ensures .1))
+    (λ c. omega (arith, place-below _ _ _ (c .before .before .box-place .ensures) (omega arith)))
+    (λ c. omega (arith, place-below _ _ _ (c .before .before .box-place .ensures) (omega arith)))
     (λ c κs. search needs)
-    (λ c. omega (arith, c .before .before .station-place2 .ensures .1))
-    (λ c. omega (arith, c .before .before .station-place2 .ensures .1))
+    (λ c. omega (arith, place-below _ _ _ (c .before .before .station-place2 .ensures) (omega arith)))
+    (λ c. omega (arith, place-below _ _ _ (c .before .before .station-place2 .ensures) (omega arith)))
     (λ c κs. search needs)
     (λ c κs. search needs)
     (λ c κs. search needs)
     (λ c. let x = c .before .before in turn-refused (turn x) _ _ _ (turned-back c) ∙ head x .loop .inv .2)
     (λ c κs. search needs)
     (λ c κs. search needs)
-    (λ c. let h = changing c .before .before .before .before .before .before .before .before .row-place .ensures .1 in omega (arith, h))
-    (λ c. let h = changing c .before .before .before .before .before .before .before .before .row-place .ensures .1 in omega (arith, h))
-    (λ c. let h = changing c .before .before .before .before .before .before .before .box-place .ensures .1 in omega (arith, h))
-    (λ c. let h = changing c .before .before .before .before .before .before .before .box-place .ensures .1 in omega (arith, h))
-    (λ c. let h = changing c .before .before .before .before .before .station-place2 .ensures .1 in omega (arith, h))
-    (λ c. let h = changing c .before .before .before .before .before .station-place2 .ensures .1 in omega (arith, h))
-    (λ c. let h = head (changing c) .loop .inv .0 in omega (arith, h))
+    (λ c. let h = place-below _ _ _ (changing c .before .before .before .before .before .before .before .before .row-place .ensures) (omega arith) in omega (arith, h))
+    (λ c. let h = place-below _ _ _ (changing c .before .before .before .before .before .before .before .before .row-place .ensures) (omega arith) in omega (arith, h))
+    (λ c. let h = place-below _ _ _ (changing c .before .before .before .before .before .before .before .box-place .ensures) (omega arith) in omega (arith, h))
+    (λ c. let h = place-below _ _ _ (changing c .before .before .before .before .before .before .before .box-place .ensures) (omega arith) in omega (arith, h))
+    (λ c. let h = place-below _ _ _ (changing c .before .before .before .before .before .station-place2 .ensures) (omega arith) in omega (arith, h))
+    (λ c. let h = place-below _ _ _ (changing c .before .before .before .before .before .station-place2 .ensures) (omega arith) in omega (arith, h))
     (λ c κs. search needs)
-    (λ c. let x = head (changing (c .before .before)) in let h = x .loop .inv .0 in let z = x .before .before .good in omega arith)
+    (λ c. let h = head (changing (c .before)) .loop .inv .0 in omega (arith, h))
+    (λ c κs. search needs)
+    (λ c. let x = head (changing (storing (c .before))) in let h = x .loop .inv .0 in let z = x .before .before .good in omega arith)
     (λ c.
-    let x = c .before .before in
-    turn-over (turn (changing x)) (accepted x) _ _ (x .before .box-with .ensures) (x .shares-with .ensures) _ _ _ _ (sym (c .before .over .ensures) ∙ c .if2 .taken)
+    let x = storing (c .before) in
+    turn-over (turn (changing x)) (accepted x) _ _ (x .before .box-with .ensures) (x .shares-with .ensures) _ _ _ _ _ _ (asked x .refused .ensures) (c .before .before .ends .ensures)
+    (c .before .over .ensures) _ (c .if2 .taken)
     ∙ head (changing x) .loop .inv .2)
-    (λ c. let h = left c in let z = head (changing (c .before .before)) .before .before .good in omega arith)
-    (λ c κs. let h = left c in let z = head (changing (c .before .before)) .before .before .good in omega arith)
     (λ c κs. search needs)
-    (λ c. let h = left (c .before .before) in let z = head (changing (c .before .before .before .before)) .before .before .good in omega arith)
+    (λ c κs. search needs)
+    (λ c. let h = left (c .before .before) in let z = head (changing (storing (c .before .before .before))) .before .before .good in omega arith)
     (λ c. let h = left (c .before .before) in omega arith)
     (λ c.
-    let x = c .before .before .before .before in
+    let e = c .before .before .before in
+    let x = storing e in
     let t = turn (changing x) in
     let a = accepted x in
     let h = left (c .before .before) in
     let eb = x .before .box-with .ensures in
     let es = x .shares-with .ensures in
-    let next = c .decode .ensures ∙ ap commandOf (c .before .record-at .ensures) in (
+    let next = c .decode .ensures ∙ ap commandOf (c .before .record-at .ensures ∙ record-there _ _ _ (omega arith)) in (
       omega arith,
       turn-sound t a _ _ eb es,
-      turn-on t a _ _ eb es _ _ _ _ (sym (c .before .before .before .over .ensures) ∙ c .before .before .if2 .left) _ next ∙ head (changing x) .loop .inv .2,
+      turn-on t a _ _ eb es _ _ _ _ _ _ (asked x .refused .ensures) (e .before .ends .ensures) (e .over .ensures) _ (c .before .before .if2 .left) _ next ∙ head (changing x) .loop .inv .2,
     )))

@@ -59,7 +59,7 @@ loop-again c =
       (
         l .inv .1 .0,
         tally-at (a .d) (take (a .n) (a .t1)) (l .left) (l .left - 1) _ (l .t) (c .with-box .result) next (omega arith) (l .inv .1 .1)
-            (c .with-box .ensures ∙ ap (λ (b : StorageBox). oneMore (a .d) b (l .t)) (sym (getD-take (a .n) (a .t1) (l .left - 1) _ inside))),
+            (c .with-box .ensures ∙ ap (λ (y : StorageBox). oneMore (a .d) y (l .t)) (sym (getD-take (a .n) (a .t1) (l .left - 1) _ inside))),
       ),
     )
 

@@ -92,28 +92,28 @@ module _ {M : Type 1} (𝓤 : URA M) (H : Heap 𝓤) (A : Atoms 𝓤) (mem : Mem
   WithBox = tripleOf 𝓤 H A with-box.signature (with-box.spec 𝓤 H A mem run)
 
   -- of the callee's `ensured`, the clause alone
-  said : (b : StorageBox) (d : Department) (t r : Tally) → ent 𝓤 (ensured 𝓤 H A with-box.ended (with-box.clauses 𝓤 H A mem run) tt (b, (d, (t, tt))) tt r) (fact 𝓤 (r ≡ oneMore d b t))
-  said b d t r = exE 𝓤 _ (λ ws. snd∗ 𝓤 (sem 𝓤 H A (lasts with-box.ended tt (b, (d, (t, tt))) ws)) (fact 𝓤 (r ≡ oneMore d b t)))
+  said : (y : StorageBox) (d : Department) (t r : Tally) → ent 𝓤 (ensured 𝓤 H A with-box.ended (with-box.clauses 𝓤 H A mem run) tt (y, (d, (t, tt))) tt r) (fact 𝓤 (r ≡ oneMore d y t))
+  said y d t r = exE 𝓤 _ (λ ws. snd∗ 𝓤 (sem 𝓤 H A (lasts with-box.ended tt (y, (d, (t, tt))) ws)) (fact 𝓤 (r ≡ oneMore d y t)))
 
   abbrev to : StorageBox → Department → Tally → WithBox .Ghost
-  to b d t = ((tt, tt, tt, (b, (d, (t, tt))), (B′.lowered b ∷ [], (which d ∷ [], (T′.lowered t ∷ [], tt)))), tt)
+  to y d t = ((tt, tt, tt, (y, (d, (t, tt))), (B′.lowered y ∷ [], (which d ∷ [], (T′.lowered t ∷ [], tt)))), tt)
 
   module _ (W : Given 𝓤 H A) where
-    goes : (b : StorageBox) (d : Department) (t : Tally) → Is E b (B′.lowered b ∷ []) → Is T.the-row t (T′.lowered t ∷ []) → t .count + 1 < 2 ^ 64 → ent 𝓤 (emp 𝓤) (WithBox .pre (to b d t))
-    goes b d t ib it small =
+    goes : (y : StorageBox) (d : Department) (t : Tally) → Is E y (B′.lowered y ∷ []) → Is T.the-row t (T′.lowered t ∷ []) → t .count + 1 < 2 ^ 64 → ent 𝓤 (emp 𝓤) (WithBox .pre (to y d t))
+    goes y d t ib it small =
         qed W [] ∵ says ! small $ nothing ! $ owned ! T.the-row (Is T.the-row) (LL.makes T.the-type T′.the-plain 𝓤 H A) t _ it $ fjoin ! $
         owned ! D.the-row (Is D.the-row) (EL.makes D.the-type D′.the-plain 𝓤 H A) d _ (is-one d) $ fjoin ! $
-        owned ! E (Is E) (LL.makes B.the-type B′.the-plain 𝓤 H A) b _ ib $ fjoin ! $ nothing ! $ frame ! $ done !
+        owned ! E (Is E) (LL.makes B.the-type B′.the-plain 𝓤 H A) y _ ib $ fjoin ! $ nothing ! $ frame ! $ done !
 
-module _ {M : Type 1} (𝓤 : URA M) (H : Heap 𝓤) (A : Atoms 𝓤) (W : Given 𝓤 H A) (mem : Memory → SProp 𝓤) (run : Routine → Fun 𝓤) (κ : Lft) (q : Share) (b o : ℕ) (γ : GName) (ys : List StorageBox) (d : Department) where
+module _ {M : Type 1} (𝓤 : URA M) (H : Heap 𝓤) (A : Atoms 𝓤) (W : Given 𝓤 H A) (mem : Memory → SProp 𝓤) (run : Routine → Fun 𝓤) (κ : Lft) (q : Share) (y o : ℕ) (γ : GName) (ys : List StorageBox) (d : Department) where
   abbrev n : ℕ
   n = length ys
 
   abbrev x : RefT (List StorageBox)
-  x = record { ptr = (b, o); name = γ; now = ys }
+  x = record { ptr = (y, o); name = γ; now = ys }
 
   abbrev at : Vals tally-of.signature (κ, tt)
-  at = (sliceVal (b, o) n ∷ [], (which d ∷ [], tt))
+  at = (sliceVal (y, o) n ∷ [], (which d ∷ [], tt))
 
   abbrev bound : walkOf 𝓤 H A tally-of.ended stayed (tally-of.clauses 𝓤 H A mem run) .Ghost
   bound = (((κ, tt), (q, tt), tt, (x, (d, tt)), at), tt)
@@ -122,10 +122,10 @@ module _ {M : Type 1} (𝓤 : URA M) (H : Heap 𝓤) (A : Atoms 𝓤) (W : Given
   Post = walkOf 𝓤 H A tally-of.ended stayed (tally-of.clauses 𝓤 H A mem run) .post bound
 
   abbrev Own : Fml
-  Own = ShrSlice (named 0) κ E .own x (sliceVal (b, o) n ∷ [])
+  Own = ShrSlice (named 0) κ E .own x (sliceVal (y, o) n ∷ [])
 
   abbrev Shr : Fml
-  Shr = fshr-bor κ (λ s. arr-parts (shares E) n .part s ys b o)
+  Shr = fshr-bor κ (λ s. arr-parts (shares E) n .part s ys y o)
 
   exits : (t : Tally) → t ≡ tallyOf d ys → Is T.the-row t (T′.lowered t ∷ []) → ent 𝓤 (⋆ 𝓤 H A (‵ (flft κ q) ∷ ‵ Own ∷ [])) (Post (T′.lowered t))
   exits t e is =
@@ -158,7 +158,7 @@ module _ {M : Type 1} (𝓤 : URA M) (H : Heap 𝓤) (A : Atoms 𝓤) (W : Given
       abbrev At : State → List (Item 𝓤)
       At s = ‵ (froom B′.mir l₈ 0) ∷ ‵ (fdies B′.mir l₈) ∷ ‵ (froom tyPtr l₇ 0) ∷ ‵ (fdies tyPtr l₇) ∷ ‵ (froom word l₆ 0) ∷ ‵ (fdies word l₆) ∷ ‵ (froom tyBool l₅ 0) ∷ ‵ (fdies tyBool l₅)
           ∷ ‵ (fat fullShare word l₄ 0 (vint w64 (s .0))) ∷ ‵ (fdies word l₄) ∷ ‵ (fat fullShare T′.mir l₃ 0 (T′.lowered (s .1 .0))) ∷ ‵ (fdies T′.mir l₃)
-          ∷ ‵ (fat fullShare D′.mir l₂ 0 (which d)) ∷ ‵ (fdies D′.mir l₂) ∷ ‵ (fat fullShare slice l₁ 0 (sliceVal (b, o) n)) ∷ ‵ (fdies slice l₁)
+          ∷ ‵ (fat fullShare D′.mir l₂ 0 (which d)) ∷ ‵ (fdies D′.mir l₂) ∷ ‵ (fat fullShare slice l₁ 0 (sliceVal (y, o) n)) ∷ ‵ (fdies slice l₁)
           ∷ ‵ (froom T′.mir l₀ 0) ∷ ‵ (fdies T′.mir l₀) ∷ ‵ (flft κ q) ∷ ‵ Shr ∷ ‵ Own ∷ []
 
       abbrev Turned : State → Out → SProp 𝓤
@@ -184,13 +184,13 @@ module _ {M : Type 1} (𝓤 : URA M) (H : Heap 𝓤) (A : Atoms 𝓤) (W : Given
           rewrite ! 8 (λ (k : ℕ). ‵ (fat fullShare word l₄ 0 (vint w64 k))) one-less refl $
           assigns ! (bin ! (load ! (from ! (stop !)) (look ! 8 refl)) (lit ! tt) (record { fits = mul-fits })) (from ! (stop !)) (init ! 4 refl (tt, record { fits = mul-fits })) $
           assigns ! (bin ! (load ! (from ! (fld ! refl (stop !))) (look-in ! 14 (sub ! 0 refl (whole !)))) (load ! (from ! (stop !)) (look ! 4 refl)) tt) (from ! (stop !)) (init ! 2 refl (tt, tt)) $
-          rewrite ! 2 (λ (p : ℕ). ‵ (fat fullShare tyPtr l₇ 0 (vptr b p))) (sym (place-is 28 o j)) refl $
+          rewrite ! 2 (λ (p : ℕ). ‵ (fat fullShare tyPtr l₇ 0 (vptr y p))) (sym (place-is 28 o j)) refl $
           move ! (19 ∷ 18 ∷ []) $
-          looks-slice ! tt E (Is E) (shows 𝓤 H A E) (LL.vals B.the-type B′.the-laws) (LL.tells B.the-type B′.the-laws) (LL.copy B.the-type B′.the-copy 𝓤 H A W) ys b o (λ q′.
-          elem-out ! E (Is E) (shows 𝓤 H A E) (LL.vals B.the-type B′.the-laws) (LL.tells B.the-type B′.the-laws) q′ ys j box0 b o le (λ ib.
+          looks-slice ! tt E (Is E) (shows 𝓤 H A E) (LL.vals B.the-type B′.the-laws) (LL.tells B.the-type B′.the-laws) (LL.copy B.the-type B′.the-copy 𝓤 H A W) ys y o (λ q′.
+          elem-out ! E (Is E) (shows 𝓤 H A E) (LL.vals B.the-type B′.the-laws) (LL.tells B.the-type B′.the-laws) q′ ys j box0 y o le (λ ib.
           -- [boxes[j]; what it owns; the others; what shuts; the fractured borrow; _8; …; _7; …; _6; …; _5; …; _4; …; _3; …; _2; …; _1; …; _0; …; what boxes owns]
           assigns ! (of-opd ! (load ! (from ! (hop ! (look ! 7 refl) (stop !))) (look-raw ! 0 refl))) (from ! (stop !)) (init ! 5 refl (LL.lawful B.the-type B′.the-laws 𝓤 H A W .typed el _ ib .0)) $
-          elem-back ! E q′ ys j box0 (B′.lowered el ∷ []) b o le $ shuts-slice ! tt E q′ ys b o $
+          elem-back ! E q′ ys j box0 (B′.lowered el ∷ []) y o le $ shuts-slice ! tt E q′ ys y o $
           -- [the token; the fractured borrow; _8; …; _7; …; _6; …; _5; …; _4; …; _3; …; _2; …; _1; …; _0; …; what boxes owns]
           use0 W (raw (WithBox 𝓤 H A mem run .pre (to 𝓤 H A mem run el d t))) (goes 𝓤 H A mem run W el d t ib is small) $
           calls-at-last ! fm (WithBox 𝓤 H A mem run) known (to 𝓤 H A mem run el d t) (and-then ! (load ! (from ! (stop !)) (look ! 3 refl)) (and-then ! (load ! (from ! (stop !)) (look ! 15 refl)) (and-then ! (load ! (from ! (stop !)) (look ! 13 refl)) (no-more !)))) (λ v.
@@ -232,15 +232,15 @@ module _ {M : Type 1} (𝓤 : URA M) (H : Heap 𝓤) (A : Atoms 𝓤) (W : Given
     goes-round : (l₀ l₁ l₂ l₃ l₄ l₅ l₆ l₇ l₈ : ℕ) → Sq W (At l₀ l₁ l₂ l₃ l₄ l₅ l₆ l₇ l₈ start) (runs C Λ (En l₀ l₁ l₂ l₃ l₄ l₅ l₆ l₇ l₈) piece.t-3 (atRet (En l₀ l₁ l₂ l₃ l₄ l₅ l₆ l₇ l₈) Post))
     goes-round l₀ l₁ l₂ l₃ l₄ l₅ l₆ l₇ l₈ = first ! $ blocks ! $ loops ! 𝓣 Fewer Fewer-wf (At l₀ l₁ l₂ l₃ l₄ l₅ l₆ l₇ l₈) (turns l₀ l₁ l₂ l₃ l₄ l₅ l₆ l₇ l₈) start
 
-    walk : ent 𝓤 (onEntry 𝓤 H A tally-of.signature (κ, tt) (q, tt) (x, (d, tt)) at) (WpFn 𝓤 H C Λ code.function (sliceVal (b, o) n ∷ which d ∷ []) Post)
+    walk : ent 𝓤 (onEntry 𝓤 H A tally-of.signature (κ, tt) (q, tt) (x, (d, tt)) at) (WpFn 𝓤 H C Λ code.function (sliceVal (y, o) n ∷ which d ∷ []) Post)
     walk =
-        qed W ((‵ (flft κ q) ⊛ ‵ ftrue) ∷ ‵ (owns (ShrSlice (named 0) κ E ∷ D.the-row ∷ []) (x, (d, tt)) at) ∷ []) ∵ enter ! C Λ code.function (sliceVal (b, o) n ∷ which d ∷ []) _ $
+        qed W ((‵ (flft κ q) ⊛ ‵ ftrue) ∷ ‵ (owns (ShrSlice (named 0) κ E ∷ D.the-row ∷ []) (x, (d, tt)) at) ∷ []) ∵ enter ! C Λ code.function (sliceVal (y, o) n ∷ which d ∷ []) _ $
         alloc1 ! (λ l₀. alloc1 ! (λ l₁. alloc1 ! (λ l₂. alloc1 ! (λ l₃. alloc1 ! (λ l₄. alloc1 ! (λ l₅. alloc1 ! (λ l₆. alloc1 ! (λ l₇. alloc1 ! (λ l₈. alloc0 ! $ params1 ! $
         pass1 ! (init ! 14 refl (tt, (tt, (record { fits = g .0 }, tt)))) $ pass1 ! (init ! 12 refl (EL.lawful D.the-type D′.the-laws 𝓤 H A W tt .typed d _ (is-one d) .0)) $ pass0 ! $
         assigns ! (agg ! (and-then ! (lit ! tt) (and-then ! (lit ! tt) (no-more !)))) (from ! (stop !)) (init ! 10 refl (tt, (record { fits = lit< tt }, (record { fits = lit< tt }, tt)))) $
         assigns ! (of-opd ! (load ! (from ! (fld ! refl (stop !))) (look-in ! 14 (sub ! 1 refl (whole !))))) (from ! (stop !)) (init ! 8 refl (tt, record { fits = g .0 })) $
         -- a `&[T]` is Copy: one copy of what it owns is kept for the exit, and of the other the fractured borrow
-        move ! (19 ∷ []) $ fsplit ! $ use1 W (‵ Own ⊛ ‵ Own) (shr-slice-copy 𝓤 H A W (named 0) κ E .twice x (sliceVal (b, o) n ∷ [])) $ split ! $
+        move ! (19 ∷ []) $ fsplit ! $ use1 W (‵ Own ⊛ ‵ Own) (shr-slice-copy 𝓤 H A W (named 0) κ E .twice x (sliceVal (y, o) n ∷ [])) $ split ! $
         fsplit ! $ drop ! $ fsplit ! $ drop ! $
         -- [the fractured borrow; what boxes owns; what d owns; _8; …; _0; …; the token]
         move ! (21 ∷ []) $ split ! $

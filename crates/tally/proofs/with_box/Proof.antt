@@ -14,15 +14,15 @@ use Rattle.tally.proofs.with_box.Statement.{statement}
 use Rattle.tally.proofs.with_box.Tie as tie
 
 -- a box that is not away: the higher of the two ranks is kept
-module _ (d : Department) (b : StorageBox) (t : Tally) (x : Register) (e : b .away ≡ false) (q : x ≡ registerOf d b) where
-  counted : (h : ℕ) → max (t .highest) (x .write) ≡ h → record { count = t .count + 1; highest = h } ≡ oneMore d b t
+module _ (d : Department) (y : StorageBox) (t : Tally) (x : Register) (e : y .away ≡ false) (q : x ≡ registerOf d y) where
+  counted : (h : ℕ) → max (t .highest) (x .write) ≡ h → record { count = t .count + 1; highest = h } ≡ oneMore d y t
   unfolding oneMore
   counted h f = on-false _ e (ap (λ (k : ℕ). record { count = t .count + 1; highest = k }) (sym f ∙ ap (λ (y : Register). max (t .highest) (y .write)) q))
 
-  raised : t .highest < x .write → record { count = t .count + 1; highest = x .write } ≡ oneMore d b t
+  raised : t .highest < x .write → record { count = t .count + 1; highest = x .write } ≡ oneMore d y t
   raised l = counted (x .write) (max-eq-right (le-of-lt l))
 
-  kept : x .write ≤ t .highest → record { count = t .count + 1; highest = t .highest } ≡ oneMore d b t
+  kept : x .write ≤ t .highest → record { count = t .count + 1; highest = t .highest } ≡ oneMore d y t
   kept l = counted (t .highest) (max-eq-left l)
 
 pub with-box-spec : {M : Type 1} → statement M
