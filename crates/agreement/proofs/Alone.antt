@@ -17,19 +17,23 @@ use Rattle.register.specs.Register.{box0}
 use Rattle.commands.specs.Commands.{commandOf, encodeOf}
 use Rattle.floor.specs.Floors.{departmentAt}
 use Rattle.floor.specs.Effects.{rowTaken}
-use Rattle.floor.specs.Claims.{Sound}
+use Rattle.floor.specs.Soundness.{Sound}
 use Rattle.floor.specs.declared.Floor.{Floor}
 use Rattle.commands.specs.declared.Command.{Command}
 use Rattle.commands.specs.declared.Command.the-variants.{Begin, Serve, Deliver, Stop, Leave, Return, Malformed}
 use Rattle.base.proofs.Cases.{clash}
 use Rattle.commands.proofs.Encodings.{decode-encode}
-use Rattle.solo.specs.Plan.{roundOf, answeringFrom, askedOf, exchange, exchanges, exchangesOf, planOf}
+use Rattle.plans.specs.Plans.{exchange, exchanges}
+use Rattle.solo.specs.Plan.{roundOf, answeringFrom, askedOf, exchangesOf, planOf}
 use Rattle.solo.specs.Claims.{Ready}
 use Rattle.solo.proofs.RoundLaws.{round-smallest}
 use Rattle.floor.specs.Runs.{floorAt}
 use Rattle.agreement.specs.Words.{Answering, IdleAt, RowLeft, RoundLeft}
-use Rattle.agreement.proofs.Reach.{New, size-at}
-use Rattle.agreement.proofs.Standing.{department-at, stations-at, answering-means, idle-state, round-outranks}
+use Rattle.agreement.proofs.Boxes.{answering-means}
+use Rattle.agreement.proofs.Stations.{idle-state}
+use Rattle.agreement.proofs.Shares.{round-outranks}
+use Rattle.agreement.specs.Demand.{traceOf}
+use Rattle.floor.proofs.Reached.{New, size-at, department-at, stations-at}
 use Rattle.agreement.proofs.FreeRows.{row-left}
 
 -- a set of boxes that are not away is no larger than the list of them
@@ -59,17 +63,17 @@ count-answering boxes (suc k) b set h =
 
 -- the words of the list, on the floor before the step at i
 module _ (f : Floor) (l : List (List ℕ)) (new : New f) (z : Sound f) (s i : ℕ) where
-  pub ready : s < f .m → IdleAt f l s i → Majority (f .n) (Answering f l i) → RowLeft f l (departmentAt f s) i → RoundLeft f l (departmentAt f s) s i → Ready (floorAt f l i) s
+  pub ready : s < f .m → IdleAt (traceOf f l) s i → Majority (f .n) (Answering (traceOf f l) i) → RowLeft (traceOf f l) (departmentAt f s) i → RoundLeft (traceOf f l) (departmentAt f s) s i → Ready (floorAt f l i) s
   ready place idle boxes row round = record {
-    station = omega (arith, stations-at f l new i);
+    station = omega (arith, stations-at f l i);
     idle = idle-state f l new s i idle;
     round = omega (
       arith,
       round-smallest (floorAt f l i) s .least (round .round) (round .least)
-          (rw (department-at f l new s i) (round-outranks f l new (departmentAt f s) s i round)),
+          (rw (department-at f l s i) (round-outranks f l new (departmentAt f s) s i round)),
       round .most,
     );
-    row = rw (department-at f l new s i) (row-left f l new z (departmentAt f s) i row);
+    row = rw (department-at f l s i) (row-left f l new z (departmentAt f s) i row);
     boxes = rw (size-at f l i) (le-trans (boxes .large)
         (count-answering (floorAt f l i .boxes) (f .n) 0 (boxes .set) (λ j h t. subst (λ (b : ℕ). getD (floorAt f l i .boxes) b box0 .away ≡ false) (sym (zero-add j))
         (answering-means f l new j i (boxes .each j h t)))));

@@ -1,5 +1,5 @@
 -- Demand 3, for every list of records and any n, m and departments.
-use Prim.Native.Nat.{ℕ, zero, suc, _+_, _≤_, _<_}
+use Prim.Native.Nat.{ℕ, zero, suc, _+_, _≤_, _<_, _*_}
 use native.Mathlib.Nat.{add-zero}
 use native.Mathlib.Omega.{arith}
 use mathlib.Core.Path.{_≡_, refl, sym, ap, subst, _∙_}
@@ -10,6 +10,7 @@ use lib.Seq.{getD-take, getD-append-add, length-take-le}
 use Rattle.suits.specs.Suits.{FourBytes}
 use Rattle.suits.specs.declared.Suit.{Suit}
 use Rattle.base.proofs.QuorumLaws.{at-least-map}
+use Rattle.runs.specs.Runs.{stateAt}
 use Rattle.floor.specs.Floors.{rowAt}
 use Rattle.attempts.specs.Rows.{newRow}
 use Rattle.commands.specs.Commands.{commandOf}
@@ -24,8 +25,9 @@ use Rattle.commands.specs.declared.Command.the-variants.{Begin}
 use Rattle.commands.specs.declared.Outcome.the-variants as said
 use Rattle.base.proofs.Cases.{clash}
 use Rattle.floor.proofs.StepCases.{StepCase, turned, began, step-case}
-use Rattle.floor.specs.Claims.{Lengths}
-use Rattle.floor.proofs.Keeps.{new-sound, row-stored}
+use Rattle.floor.specs.Soundness.{Lengths}
+use Rattle.floor.proofs.EmptyFloors.{new-sound}
+use Rattle.floor.proofs.StoredLaws.{row-stored}
 use Rattle.floor.proofs.RowLaws.{apply-not-begun, row-same}
 use Rattle.solo.specs.Plan.{roundOf, planOf}
 use Rattle.solo.specs.Solo.{soloOf}
@@ -37,14 +39,17 @@ use Rattle.solo.proofs.LawfulLaws.{after-lawful, new-lawful}
 use Rattle.solo.proofs.Decides.{solo-decides}
 use Rattle.solo.proofs.PlanLaws.{plan-begins}
 use Rattle.solo.proofs.PlanRecords.{plan-records}
-use Rattle.agreement.specs.Words.{commandAt, DecidesAt}
+use Rattle.floor.specs.Runs.{commandAt}
+use Rattle.agreement.specs.Words.{DecidesAt}
 use Rattle.floor.specs.Runs.{floorAt, floorLeft, saidAt}
-use Rattle.agreement.specs.Demand.{firstFloor, DrivenAlone, Demand3Theorem}
-use Rattle.agreement.proofs.Reach.{New, new-floor, size-at}
+use Rattle.floor.specs.Floors.{firstFloor}
+use Rattle.agreement.specs.Demand.{DrivenAlone, Demand3Theorem, traceOf}
 use Rattle.agreement.proofs.Positions.{means-at}
 use Rattle.agreement.proofs.Safety.{decides-at, shown, safety}
-use Rattle.agreement.proofs.Standing.{department-at, own-department}
+use Rattle.agreement.proofs.Shares.{own-department}
 use Rattle.floor.proofs.ListLaws.{floor-behind, said-behind, left-behind, said-taken, left-taken}
+use Rattle.floor.proofs.Reached.{New, new-floor, size-at, department-at}
+use Rattle.base.specs.Numbers.{quorum}
 use Rattle.agreement.proofs.Alone.{ready, plan-delivers, NoBegin, plan-no-begin}
 
 -- the row that an accepted begin takes is its station's
@@ -58,7 +63,7 @@ begun-row {f} s r v y (began z d) e = ap (λ (w : Row). w .station) (row-stored 
 module _ (g : Floor) (y : Lengths g) (l : List (List ℕ)) (s round : ℕ) (v : Suit) (first : commandAt l 0 ≡ Begin s round v) (ok : isRefused (saidAt g l 0) ≡ false)
     (rest : (i : ℕ) → suc i < length l → NoBegin (getD l (suc i) [])) where
   own-row : (i : ℕ) → i < length l → rowAt (floorAt g l (suc i)) (rowTaken g s) .station ≡ s
-  unfolding floorAt stepOf
+  unfolding stateAt stepOf
   own-row zero h = begun-row s round v y (subst (λ (c : Command). StepCase g c (stepOf g (getD l 0 []))) first (step-case g (getD l 0 []))) ok
   own-row (suc i) h =
       row-same (floorAt g l (suc i)) (commandAt l (suc i)) (rowTaken g s) (apply-not-begun (floorAt g l (suc i)) (commandAt l (suc i)) (rest i h) (rowTaken g s)) .station
@@ -108,7 +113,7 @@ module _ (f : Floor) (l : List (List ℕ)) (new : New f) (s : ℕ) (v : Suit) (y
   rest-steps : (i : ℕ) → suc i < length steps → NoBegin (getD steps (suc i) [])
   rest-steps i h = let p = step-planned (suc i) h in subst NoBegin (sym (p .1)) (plan-no-begin g s v i (p .0))
 
-  decides : (i : ℕ) → suc i ≡ length steps → DecidesAt f (l ++ steps) s (decided-steps .revision) (length l + i)
+  decides : (i : ℕ) → suc i ≡ length steps → DecidesAt (traceOf f (l ++ steps)) s (decided-steps .revision) (length l + i)
   decides i q =
       let e = said-behind f l steps i ∙ last-said i q in
       let m = means-at f (l ++ steps) new (length l + i) (said.Decided (decided-steps .revision)) e in
@@ -122,27 +127,32 @@ module _ (f : Floor) (l : List (List ℕ)) (new : New f) (s : ℕ) (v : Suit) (y
       own (suc i) q a e =
           rw (floor-behind f l steps (suc i), e) (own-row g (y .lengths) steps s (roundOf g s) v first-step (accepted 0 (omega (arith, some))) rest-steps i (omega (arith, q)))
 
-  alone : DrivenAlone f l s v d
+  length-steps : length steps ≡ 4 * quorum (f .n) + 1
+  length-steps = omega (arith, number, decided-steps .steps, size-at f l (length l))
+
+  alone : DrivenAlone f l s v (4 * quorum (f .n) + 1) d
   alone = record {
     steps = steps;
     records = all-take (d .steps) plan (plan-records g s v (omega (arith, x .station, y .sound .station-most)) h (x .round) (omega (arith, x .row)) (omega (arith, y .sound .box-most)));
-    round = roundOf g s;
-    begins = ap commandOf (ap (λ (k : ℕ). getD (l ++ steps) k []) (sym (add-zero (length l))) ∙ getD-append-add l steps 0 []) ∙ first-step;
-    accepted = λ i k. ap isRefused (said-behind f l steps i) ∙ accepted i k;
+    count = length-steps;
+    alone = record {
+      round = roundOf g s;
+      begins = ap commandOf (ap (λ (k : ℕ). getD (l ++ steps) k []) (sym (add-zero (length l))) ∙ getD-append-add l steps 0 []) ∙ first-step;
+      accepted = λ i k. ap isRefused (said-behind f l steps i) ∙ accepted i (omega (arith, length-steps));
+      revision = decided-steps .revision;
+      decides = λ i q. decides i (omega (arith, q, length-steps));
+    };
     floor = left-behind f l steps ∙ left-taken g plan (d .steps) (counted-steps .within) ∙ sym (counted-steps .reached);
-    revision = decided-steps .revision;
-    decides = decides;
     outcome = decided-steps .said;
-    number = number;
-    count = omega (arith, decided-steps .steps, size-at f l (length l));
+    number = number ∙ length-steps;
   }
 
 pub demand3 : Demand3Theorem
-demand3 n m t l = let f = firstFloor n m t in let new = new-floor n m t in record {
+demand3 n m ds l = let f = firstFloor n m ds in let new = new-floor n m ds in record {
   safety = safety f l new;
   shown = shown f l new;
   own = own-department f l new;
-  kept = department-at f l new;
+  kept = department-at f l;
   solo = λ s v place idle boxes row round h.
-      alone f l new s v (after-lawful f l (length l) (new-lawful n m t)) (ready f l new (new-sound n m t) s (length l) place idle (at-least-map (omega arith) (λ b a. a) boxes) row round) (omega arith);
+      alone f l new s v (after-lawful f l (length l) (new-lawful n m ds)) (ready f l new (new-sound n m ds) s (length l) place idle (at-least-map (omega arith) (λ b a. a) boxes) row round) (omega arith);
 }

@@ -11,6 +11,7 @@ use Rattle.requests.specs.Requests.{Standing, notIssued, notReceived, standing,
 use Rattle.requests.specs.declared.Phase.{Phase}
 use Rattle.requests.specs.declared.Phase.the-variants.{Write}
 use Rattle.requests.specs.declared.Stage.the-variants.{Unissued}
+use Rattle.runs.specs.Runs.{stateAt}
 use Rattle.floor.specs.Floors.{stationAt, rowAt, departmentAt, InUse}
 use Rattle.attempts.specs.Rows.{rowDepartment}
 use Rattle.attempts.specs.declared.State.{State}
@@ -23,9 +24,10 @@ use Rattle.commands.specs.declared.Outcome.{Outcome}
 use Rattle.commands.specs.declared.Outcome.the-variants as said
 use Rattle.base.proofs.Choices.{by-test}
 use Rattle.floor.proofs.FreeLaws.{next-own}
-use Rattle.floor.specs.Claims.{Meaning}
+use Rattle.floor.specs.Meanings.{Meaning}
 use Rattle.floor.proofs.Outcomes.{step-means}
-use Rattle.agreement.specs.Words.{Before, commandAt, Attempt, attemptRank, Named}
+use Rattle.agreement.specs.Words.{Attempt, attemptRank, Named}
+use Rattle.floor.specs.Runs.{commandAt}
 use Rattle.floor.specs.Runs.{floorAt, saidAt}
 use Rattle.machine.specs.Machine as machine
 use Rattle.machine.specs.Runs.{Safety}
@@ -33,7 +35,9 @@ use Rattle.machine.proofs.Runs.{safety}
 use Rattle.machine.proofs.Consensus.{consensus-fits}
 use Rattle.panel.specs.Panel.{figure1, seatIn}
 use Rattle.panel.proofs.Simulation.{seen-own}
-use Rattle.agreement.proofs.Reach.{New, says-at, within-own, lengths-at, runIn}
+use Rattle.agreement.specs.Demand.{traceOf}
+use Rattle.floor.proofs.Reached.{New}
+use Rattle.agreement.proofs.Reach.{says-at, within-own, runIn}
 
 -- a rank is served by a serve of its attempt
 pub record Serving (d : Department) (f : Floor) (c : Command) (o : Outcome) (r b : ℕ) : Type 0 where
@@ -45,28 +49,21 @@ pub record Serving (d : Department) (f : Floor) (c : Command) (o : Outcome) (r b
   pub asked : c ≡ Serve phase attempt b
   pub accepted : o ≡ said.Served attempt
 
--- what held before i, and what holds at i, held before suc i
-pub later : {P : ℕ → Type 0} {i : ℕ} → Before P i → Before P (suc i)
-later x = record { at = x .at; earlier = omega (arith, x .earlier); holds = x .holds }
-
-pub now : {P : ℕ → Type 0} (i : ℕ) → P i → Before P (suc i)
-now i p = record { at = i; earlier = omega arith; holds = p }
-
 module _ (f : Floor) (l : List (List ℕ)) where
   -- the row a in use before i is that of an attempt
   pub record RowOf (i a : ℕ) : Type 0 where
-    pub attempt : Attempt f l
+    pub attempt : Attempt (traceOf f l)
     pub number : attempt .number ≡ a
-    pub named : Named f l attempt i
+    pub named : Named (traceOf f l) attempt i
     pub station : attempt .station ≡ rowAt (floorAt f l i) a .station
-    pub rank : attemptRank f l attempt ≡ rowAt (floorAt f l i) a .rank
+    pub rank : attemptRank (traceOf f l) attempt ≡ rowAt (floorAt f l i) a .rank
 
   module _ (new : New f) where
     -- what it means that the step at i said o
     pub means-at : (i : ℕ) (o : Outcome) → saidAt f l i ≡ o → Meaning (floorAt f l i) (commandAt l i) (floorAt f l (suc i)) o
-    unfolding floorAt
+    unfolding stateAt
     means-at i o e =
-        subst (Meaning (floorAt f l i) (commandAt l i) (stepOf (floorAt f l i) (getD l i []) .floor)) e (step-means (floorAt f l i) (getD l i []) (lengths-at f l new i))
+        subst (Meaning (floorAt f l i) (commandAt l i) (stepOf (floorAt f l i) (getD l i []) .floor)) e (step-means (floorAt f l i) (getD l i []))
 
     -- the run is safe in each department
     pub safe : (d : Department) → Safety (runIn f l new d)
@@ -95,8 +92,8 @@ module _ (f : Floor) (l : List (List ℕ)) where
 
     -- a station that reads or writes is in a row of its own, and reads before its write is issued
     module _ (i j a : ℕ) where
-      seat-of : (p : State) → stationAt (floorAt f l i) j .state ≡ p → runIn f l new (departmentAt (floorAt f l i) j) .at i .station j .seat ≡ seatIn p
-      seat-of p e = ap (λ (x : machine.Station). x .seat) (seen-own (departmentAt (floorAt f l i) j) (stationAt (floorAt f l i) j) refl) ∙ ap seatIn e
+      seat-of : (st : State) → stationAt (floorAt f l i) j .state ≡ st → runIn f l new (departmentAt (floorAt f l i) j) .at i .station j .seat ≡ seatIn st
+      seat-of st e = ap (λ (x : machine.Station). x .seat) (seen-own (departmentAt (floorAt f l i) j) (stationAt (floorAt f l i) j) refl) ∙ ap seatIn e
 
       pub reads-in : stationAt (floorAt f l i) j .state ≡ state.Reading a
           → InUse (floorAt f l i) a × (rowAt (floorAt f l i) a .station ≡ j) × ((b : ℕ) → slotAt (rowAt (floorAt f l i) a .write) b .stage ≡ Unissued)

@@ -1,7 +1,7 @@
 -- Document 01's examples I and J, and lists of the wishes of document 02, in the words of demand 3, so that the claim is not about nothing.
-use Prim.Native.Nat.{ℕ, zero, suc, _<_}
+use Prim.Native.Nat.{ℕ, zero, suc, _<_, _+_, _*_}
 use native.Mathlib.Omega.{arith}
-use mathlib.Core.Path.{_≡_, refl, sym, ap, _∙_}
+use mathlib.Core.Path.{_≡_, refl, sym, ap, _∙_, subst}
 use mathlib.Core.Logic.{_⊎_, inl, inr}
 use mathlib.Core.Bool.{Bool, true, false, not}
 use mathlib.Core.List.{[], _∷_}
@@ -13,7 +13,7 @@ use Rattle.suits.specs.Suits as suits
 use Rattle.suits.specs.Suits.{FourBytes}
 use Rattle.suits.specs.declared.Suit.{Suit}
 use Rattle.base.specs.Choice.{if_then_else_}
-use Rattle.base.specs.Numbers.{sizesRight}
+use Rattle.base.specs.Numbers.{sizesRight, quorum}
 use Rattle.base.specs.Mask.{bit, setBit, countBelow}
 use Rattle.base.specs.Quorum.{count}
 use Rattle.base.proofs.Cases.{clash, by-cases, up-to}
@@ -23,6 +23,7 @@ use Rattle.requests.specs.Requests.{standing, waitingBelow, atQuorum, stillYes,
 use Rattle.requests.specs.declared.Phase.the-variants.{Read, Write}
 use Rattle.base.specs.Departments.{departmentsWrong, notDepartments, notDepartment}
 use Rattle.register.specs.declared.Department.the-variants.{Sails, Canvas}
+use Rattle.runs.specs.Runs.{stateAt}
 use Rattle.floor.specs.Sound.{stationsBelow, shareSound, soundOf}
 use Rattle.floor.specs.Floors.{boxAt, departmentAt, usedOf, InUse, departmentFrom, stationsTold, newFloorOf}
 use Rattle.attempts.specs.declared.Decision.the-variants.{None, Revision}
@@ -40,10 +41,11 @@ use Rattle.commands.specs.declared.Command.the-variants.{Begin, Serve, Deliver}
 use Rattle.commands.specs.declared.Outcome.{Outcome}
 use Rattle.commands.specs.declared.Outcome.the-variants as said
 use Rattle.solo.specs.Solo.{soloOf}
-use Rattle.agreement.specs.Words.{commandAt, Attempt, ServedAt, DecidesAt, AbortsAt, OutrankedAt, shownAt, never, IdleAt, attemptsBefore, unused}
+use Rattle.floor.specs.Runs.{commandAt}
+use Rattle.agreement.specs.Words.{Attempt, ServedAt, DecidesAt, AbortsAt, OutrankedAt, never, IdleAt, attemptsBefore, unused}
+use Rattle.agreement.specs.Demand.{shownAt, DrivenAlone, traceOf}
 use Rattle.floor.specs.Runs.{floorAt, floorLeft, saidAt}
-use Rattle.agreement.specs.Demand.{DrivenAlone}
-use Rattle.agreement.specs.Returns.{AwayFrom}
+use Rattle.agreement.specs.ComeBack.{AwayFrom}
 use Rattle.agreement.specs.Worked.{single, one, exampleI, stops, outrankedRead, both, two, withdrawn, pair, cameBack, oneBack, three, five, heldAt, heldFor, Worked}
 use Rattle.agreement.proofs.GivenBack.{given-back}
 use Rattle.agreement.proofs.Demand.{demand3}
@@ -89,7 +91,7 @@ record Computed : Type 0 where
   over : saidAt three exampleI 20 ≡ said.Refused 10
   shown : shownAt three exampleI 1 (length exampleI) ≡ Revision (suits.single 9)
   none : shownAt three exampleI 0 (length exampleI) ≡ None
-  attempts : attemptsBefore three exampleI Sails (length exampleI) ≡ 2
+  attempts : attemptsBefore (traceOf three exampleI) Sails (length exampleI) ≡ 2
   -- the read of attempt 1 is served at box 1
   asked : commandAt exampleI 6 ≡ Serve Read 1 1
   served : saidAt three exampleI 6 ≡ said.Served 1
@@ -110,7 +112,7 @@ record Computed : Type 0 where
   withdrawn-decided : (saidAt pair withdrawn 4 ≡ said.Decided (suits.single 0)) × (shownAt pair withdrawn 0 5 ≡ Revision (suits.single 0))
   withdrawn-again : (saidAt pair withdrawn 7 ≡ said.WriteIssued (suits.single 0)) × (saidAt pair withdrawn 9 ≡ said.Decided (suits.single 0))
   withdrawn-over : saidAt pair withdrawn 10 ≡ said.Refused 10
-  begun-none : attemptsBefore five stops Sails 2 ≡ 0
+  begun-none : attemptsBefore (traceOf five stops) Sails 2 ≡ 0
   put : saidAt three cameBack 3 ≡ said.Stopped 1
   waited : saidAt three cameBack 4 ≡ said.Refused 13
   still-away : boxAt (floorAt three cameBack 5) 1 .away ≡ true
@@ -120,7 +122,7 @@ record Computed : Type 0 where
   refused-then : saidAt three cameBack 8 ≡ said.Refused 23
   moved : (isMove (saidAt five oneBack 0) ≡ true) × (isMove (saidAt five oneBack 1) ≡ true) × (isMove (saidAt five oneBack 2) ≡ true) × (isMove (saidAt five oneBack 3) ≡ true)
   enough-back : count answeringBack 5 ≡ 3
-  none-begun : attemptsBefore five oneBack Sails 4 ≡ 0
+  none-begun : attemptsBefore (traceOf five oneBack) Sails 4 ≡ 0
   -- behind example I: boxes 1 and 2 hold the revision of attempt 1, and box 0 that of attempt 0
   first : (commandAt exampleI 0 ≡ Begin 0 1 (suits.single 7)) × (saidAt three exampleI 0 ≡ said.Begun 0)
   abort : commandAt exampleI 17 ≡ Deliver Write 0 1
@@ -129,7 +131,7 @@ record Computed : Type 0 where
   all : (three .n ≡ 3) × (three .m ≡ 2) × (count (λ b. true) 3 ≡ 3)
 
 computed : Computed
-unfolding floorAt count asExpected expected if_then_else_ sizesRight departmentsWrong notDepartments notDepartment departmentFrom stationsTold newFloorOf stepOf applyOf playOf soundOf shareSound stationsBelow rowDepartment commandOf allZero spared beginRefusal serveRefusal deliverRefusal stopRefusal returnRefusal standing bit setBit countBelow ones onesIn atQuorum newRow nextRow usedAfter freeIn allServed stillServed waitsAt waitingBelow outranks rmwRead rmwWrite takes deliveredOn better bestOf revisionFrom revisionOf issued stillYes allYes readVerdict writeVerdict
+unfolding stateAt count asExpected expected if_then_else_ sizesRight departmentsWrong notDepartments notDepartment departmentFrom stationsTold newFloorOf stepOf applyOf playOf soundOf shareSound stationsBelow rowDepartment commandOf allZero spared beginRefusal serveRefusal deliverRefusal stopRefusal returnRefusal standing bit setBit countBelow ones onesIn atQuorum newRow nextRow usedAfter freeIn allServed stillServed waitsAt waitingBelow outranks rmwRead rmwWrite takes deliveredOn better bestOf revisionFrom revisionOf issued stillYes allYes readVerdict writeVerdict
 computed = record {
   decided = refl;
   aborted = refl;
@@ -175,25 +177,23 @@ computed = record {
   all = (refl, refl, refl);
 }
 
-rank-17 : ServedAt three exampleI Sails 17 1 6
+rank-17 : ServedAt (traceOf three exampleI) Sails 17 1 6
 rank-17 = record {
   attempt = record { at = 5; station = 1; round = 1; offer = suits.single 9; number = 1; asked = computed .begins; begun = computed .begun };
   of = sails-row 1 (omega arith);
-  named = record { earlier = omega arith; last = λ k h u. absurd (omega arith) };
   rank = refl;
   phase = Read;
-  asked = computed .asked;
-  accepted = computed .served;
+  serves = record { named = record { earlier = omega arith; last = λ k h u. absurd (omega arith) }; asked = computed .asked; accepted = computed .served };
 }
 
 -- by the claims: a station decided, and a rank above that of attempt 0 was served before it aborted
-decides : (s : ℕ) × DecidesAt three exampleI s (suits.single 9) 13
+decides : (s : ℕ) × DecidesAt (traceOf three exampleI) s (suits.single 9) 13
 decides = let d = consequences 3 2 (0 ∷ 0 ∷ []) exampleI .station 13 (suits.single 9) (computed .decided) in (d .0, d .2)
 
-outranked : OutrankedAt three exampleI 17
+outranked : OutrankedAt (traceOf three exampleI) 17
 outranked = demand3 3 2 (0 ∷ 0 ∷ []) exampleI .safety Sails .abort 17 0 (sails-row 0 (omega arith)) (computed .aborted)
 
-outranked-read : OutrankedAt three outrankedRead 4
+outranked-read : OutrankedAt (traceOf three outrankedRead) 4
 outranked-read = demand3 3 2 (0 ∷ 0 ∷ []) outrankedRead .safety Sails .abort 4 0 (sails-row 0 (omega arith)) (computed .told .1)
 
 -- both steps of `stops` stop a box below 2, and nothing else was said
@@ -202,20 +202,25 @@ only-stops zero o h e = (0, omega arith, sym e ∙ computed .stop0)
 only-stops (suc zero) o h e = (1, omega arith, sym e ∙ computed .stop1)
 only-stops (suc (suc k)) o h e = absurd (omega arith)
 
-idle : IdleAt five stops 0 2
+idle : IdleAt (traceOf five stops) 0 2
 idle = record {
   here = λ x. let e = only-stops (x .at) _ (x .earlier) (x .holds) .2 in let z : _≡_ {A = ℕ} 0 1 = cc in omega arith;
-  undecided = λ v x. let e = only-stops (x .at) _ (x .earlier) (x .holds .accepted) .2 in let z : _≡_ {A = ℕ} 0 1 = cc in omega arith;
+  undecided = λ v x. let e = only-stops (x .at) _ (x .earlier) (x .holds .by .says .said) .2 in let z : _≡_ {A = ℕ} 0 1 = cc in omega arith;
   aborted = λ x h _. absurd (let e = only-stops (x .at) _ h (x .begun) .2 in let z : _≡_ {A = ℕ} 0 1 = cc in omega arith);
 }
 
-no-attempt : (x : Attempt five stops) → ¬ (x .at < 2)
+no-attempt : (x : Attempt (traceOf five stops)) → ¬ (x .at < 2)
 no-attempt x h = let e = only-stops (x .at) _ h (x .begun) .2 in let z : _≡_ {A = ℕ} 0 1 = cc in omega arith
 
+-- how many steps a station driven alone takes with n boxes
+abbrev stepsFor : ℕ → ℕ
+stepsFor n = 4 * quorum n + 1
+
 -- with 2 of 5 boxes away, whatever revision station 0 offers
-alone : (v : Suit) → FourBytes v → DrivenAlone five stops 0 v (soloOf (floorLeft five stops) 0 v)
+alone : (v : Suit) → FourBytes v → DrivenAlone five stops 0 v 13 (soloOf (floorLeft five stops) 0 v)
 alone v q =
-    demand3 5 1 (0 ∷ []) stops .solo 0 v (omega (arith, computed .sizes .1)) idle
+    subst (λ (k : ℕ). DrivenAlone five stops 0 v k (soloOf (floorLeft five stops) 0 v)) (ap stepsFor (computed .sizes .0))
+    (demand3 5 1 (0 ∷ []) stops .solo 0 v (omega (arith, computed .sizes .1)) idle
     (record {
       set = answering;
       large = rw (computed .sizes .0) (omega (arith, computed .enough));
@@ -223,13 +228,10 @@ alone v q =
     })
     (unused (rw (computed .sails .0) (omega (arith, computed .begun-none))))
     (record { round = 1; least = omega arith; most = omega arith; outranks = λ x h _. absurd (no-attempt x h) })
-    q
-
-thirteen : (v : Suit) → FourBytes v → soloOf (floorLeft five stops) 0 v .steps ≡ 13
-thirteen v q = omega (arith, alone v q .count, computed .sizes .0)
+    q)
 
 -- Boxes that come back.
-away-from : AwayFrom three cameBack 1 3 5
+away-from : AwayFrom (traceOf three cameBack) 1 3 5
 away-from = record {
   put = computed .put;
   later = omega arith;
@@ -245,16 +247,17 @@ only-moves (suc (suc zero)) h o e = ap isMove (sym e) ∙ computed .moved .2
 only-moves (suc (suc (suc zero))) h o e = ap isMove (sym e) ∙ computed .moved .3
 only-moves (suc (suc (suc (suc k)))) h o e = absurd (omega arith)
 
-idle-back : IdleAt five oneBack 0 4
+idle-back : IdleAt (traceOf five oneBack) 0 4
 idle-back = record {
   here = λ x. clash (only-moves (x .at) (x .earlier) _ (x .holds)) refl;
-  undecided = λ v x. clash (only-moves (x .at) (x .earlier) _ (x .holds .accepted)) refl;
+  undecided = λ v x. clash (only-moves (x .at) (x .earlier) _ (x .holds .by .says .said)) refl;
   aborted = λ x h _. clash (only-moves (x .at) h _ (x .begun)) refl;
 }
 
-alone-back : (v : Suit) → FourBytes v → DrivenAlone five oneBack 0 v (soloOf (floorLeft five oneBack) 0 v)
+alone-back : (v : Suit) → FourBytes v → DrivenAlone five oneBack 0 v 13 (soloOf (floorLeft five oneBack) 0 v)
 alone-back v q =
-    demand3 5 1 (0 ∷ []) oneBack .solo 0 v (omega (arith, computed .sizes .1)) idle-back
+    subst (λ (k : ℕ). DrivenAlone five oneBack 0 v k (soloOf (floorLeft five oneBack) 0 v)) (ap stepsFor (computed .sizes .0))
+    (demand3 5 1 (0 ∷ []) oneBack .solo 0 v (omega (arith, computed .sizes .1)) idle-back
     (record {
       set = answeringBack;
       large = rw (computed .sizes .0) (omega (arith, computed .enough-back));
@@ -262,7 +265,7 @@ alone-back v q =
     })
     (unused (rw (computed .sails .0) (omega (arith, computed .none-begun))))
     (record { round = 1; least = omega arith; most = omega arith; outranks = λ x h _. clash (only-moves (x .at) h _ (x .begun)) refl })
-    q
+    q)
 
 -- Behind example I, where it is hard: station 0 is idle after its abort, and the boxes hold revisions, two of them another's.
 noted-upto : (n k : ℕ) → asExpected n ≡ true → k < n → noted (saidAt three exampleI k) ≡ expected k
@@ -301,7 +304,7 @@ nobody-left k h o n e =
     ]
 
 -- the attempts of example I: that of station 0 at the step 0, and that of station 1 at the step 5
-attempt-is : (x : Attempt three exampleI) → x .at < 21
+attempt-is : (x : Attempt (traceOf three exampleI)) → x .at < 21
     → ((x .at ≡ 0) × (x .number ≡ 0) × (x .station ≡ 0) × (x .round ≡ 1)) ⊎ ((x .at ≡ 5) × (x .number ≡ 1) × (x .station ≡ 1) × (x .round ≡ 1))
 attempt-is x h = elim (begun-at (x .at) (x .number) h (x .begun)) [
   | inl o ↦ (let c : Begin (x .station) (x .round) (x .offer) ≡ Begin 0 1 (suits.single 7) = sym (x .asked) ∙ ap (commandAt exampleI) (o .0) ∙ computed .first .0 in inl (o .0, o .1, cc, cc))
@@ -309,19 +312,21 @@ attempt-is x h = elim (begun-at (x .at) (x .number) h (x .begun)) [
 ]
 
 -- attempt 0 aborts at the step 17
-aborts : (x : Attempt three exampleI) → x .at ≡ 0 → x .number ≡ 0 → AbortsAt three exampleI x 17
+aborts : (x : Attempt (traceOf three exampleI)) → x .at ≡ 0 → x .number ≡ 0 → AbortsAt (traceOf three exampleI) x 17
 aborts x e n = record {
   named = record {
     earlier = omega arith;
     last = λ k h u q. elim (begun-at k (x .number) (omega arith) q) [ inl o ↦ omega (arith, o .0) | inr o ↦ omega (arith, o .1) ];
   };
-  phase = Write;
-  box = 1;
-  asked = computed .abort ∙ ap (λ (a : ℕ). Deliver Write a 1) (sym n);
-  accepted = computed .aborted ∙ ap said.Aborted (sym n);
+  says = record {
+    phase = Write;
+    box = 1;
+    asked = computed .abort ∙ ap (λ (a : ℕ). Deliver Write a 1) (sym n);
+    said = computed .aborted ∙ ap said.Aborted (sym n);
+  };
 }
 
-idle-behind : IdleAt three exampleI 0 21
+idle-behind : IdleAt (traceOf three exampleI) 0 21
 idle-behind = record {
   here = λ x. nobody-left (x .at) (x .earlier) (said.Gone 0) refl (x .holds);
   undecided = demand3 3 2 (0 ∷ 0 ∷ []) exampleI .shown 0 21 .none (computed .none);
@@ -332,9 +337,10 @@ idle-behind = record {
 }
 
 -- whatever revision it offers
-alone-behind : (v : Suit) → FourBytes v → DrivenAlone three exampleI 0 v (soloOf (floorLeft three exampleI) 0 v)
+alone-behind : (v : Suit) → FourBytes v → DrivenAlone three exampleI 0 v 9 (soloOf (floorLeft three exampleI) 0 v)
 alone-behind v q =
-    demand3 3 2 (0 ∷ 0 ∷ []) exampleI .solo 0 v (omega (arith, computed .all .1)) idle-behind
+    subst (λ (k : ℕ). DrivenAlone three exampleI 0 v k (soloOf (floorLeft three exampleI) 0 v)) (ap stepsFor (computed .all .0))
+    (demand3 3 2 (0 ∷ 0 ∷ []) exampleI .solo 0 v (omega (arith, computed .all .1)) idle-behind
     (record { set = λ b. true; large = rw (computed .all .0) (omega (arith, computed .all .2)); each = λ b h t. never (λ x. nobody-left (x .at) (x .earlier) (said.Stopped b) refl (x .holds)) })
     (unused (rw (computed .sails .1) (omega (arith, computed .attempts))))
     (record {
@@ -343,7 +349,7 @@ alone-behind v q =
       most = omega arith;
       outranks = λ x h _. elim (attempt-is x h) [ inl o ↦ omega (arith, o .2, o .3) | inr o ↦ omega (arith, o .2, o .3) ];
     })
-    q
+    q)
 
 in-sails : (f : Floor) → 0 < usedOf f Sails → InUse f 0
 in-sails f h = of-use f Sails 0 (sails-row 0 (omega arith)) (omega arith)
@@ -373,7 +379,6 @@ worked = record {
   away-from = away-from;
   alone-back = alone-back;
   alone = alone;
-  thirteen = thirteen;
   idle-behind = idle-behind;
   held-behind = computed .held;
   alone-behind = alone-behind;

@@ -2,8 +2,5 @@ pub mod Words
 pub mod Demand
 pub mod Consequences
 pub mod GivenBack
-pub mod Returns
-pub mod Deletion
-pub mod Files
+pub mod ComeBack
 pub mod Worked
-pub mod Chain

@@ -18,9 +18,11 @@ use Rattle.floor.specs.Floors.{registerAt}
 use Rattle.floor.specs.Runs.{floorLeft, saidAt}
 use Rattle.floor.specs.declared.Floor.{Floor}
 use Rattle.solo.specs.Solo.{soloOf}
-use Rattle.agreement.specs.Words.{commandAt, ServedAt, DecidesAt, OutrankedAt, shownAt, Answering, IdleAt, FreeAt, attemptsBefore}
-use Rattle.agreement.specs.Demand.{firstFloor, DrivenAlone}
-use Rattle.agreement.specs.Returns.{AwayFrom}
+use Rattle.floor.specs.Runs.{commandAt}
+use Rattle.agreement.specs.Words.{ServedAt, DecidesAt, OutrankedAt, Answering, IdleAt, FreeAt, attemptsBefore}
+use Rattle.agreement.specs.Demand.{shownAt, DrivenAlone, traceOf}
+use Rattle.floor.specs.Floors.{firstFloor}
+use Rattle.agreement.specs.ComeBack.{AwayFrom}
 
 -- "I: n = 3. Attempt 0 (rank 16, 7) has read at boxes 0 and 1. Attempt 1 (rank 17, 9) reads and writes at 1 and 2 and decides 9.
 -- Attempt 0's write is taken at 0, not at 1: it aborts. Its write at 2, served after that, is not taken." Behind it, two records
@@ -104,18 +106,18 @@ heldAt b = registerAt (floorLeft three exampleI) Sails b .value
 
 pub record Worked : Type 0 where
   -- I: a station decides 9; rank 17 is served at box 1, and before attempt 0 aborted a rank above its own was
-  pub decides : (s : ℕ) × DecidesAt three exampleI s (suits.single 9) 13
-  pub served : ServedAt three exampleI Sails 17 1 6
-  pub outranked : OutrankedAt three exampleI 17
+  pub decides : (s : ℕ) × DecidesAt (traceOf three exampleI) s (suits.single 9) 13
+  pub served : ServedAt (traceOf three exampleI) Sails 17 1 6
+  pub outranked : OutrankedAt (traceOf three exampleI) 17
   -- wish 2: attempt 0 aborts at its first read answer, and before that a rank above its own was served
   pub told : (commandAt outrankedRead 4 ≡ Deliver Read 0 0) × (saidAt three outrankedRead 4 ≡ said.Aborted 0)
-  pub outranked-read : OutrankedAt three outrankedRead 4
+  pub outranked-read : OutrankedAt (traceOf three outrankedRead) 4
   -- wish 5: behind its decision the row of attempt 0 is free, and before it is not, though all its requests are served
-  pub free : FreeAt one single 0 5
-  pub not-free : ¬ FreeAt one single 0 4
+  pub free : FreeAt (traceOf one single) 0 5
+  pub not-free : ¬ FreeAt (traceOf one single) 0 4
   -- no row is unused behind `crowd`; station 0 is driven alone in one that is given back, whatever revision it offers
-  pub used-up : ¬ (attemptsBefore pair crowd Sails (length crowd) < 64)
-  pub alone-reused : (v : Suit) → FourBytes v → DrivenAlone pair crowd 0 v (soloOf (floorLeft pair crowd) 0 v)
+  pub used-up : ¬ (attemptsBefore (traceOf pair crowd) Sails (length crowd) < 64)
+  pub alone-reused : (v : Suit) → FourBytes v → DrivenAlone pair crowd 0 v 5 (soloOf (floorLeft pair crowd) 0 v)
   -- wish 6: each department decides its own revision, and the box holds both
   pub first-decided : saidAt two both 8 ≡ said.Decided (suits.single 7)
   pub second-decided : saidAt two both 9 ≡ said.Decided (suits.single 9)
@@ -126,17 +128,16 @@ pub record Worked : Type 0 where
   pub withdrawn-again : (saidAt pair withdrawn 7 ≡ said.WriteIssued (suits.single 0)) × (saidAt pair withdrawn 9 ≡ said.Decided (suits.single 0))
   pub withdrawn-over : saidAt pair withdrawn 10 ≡ said.Refused 10
   -- wish 8: while it is away box 1 does not serve the read, and does not answer; back it does both
-  pub away : (saidAt three cameBack 4 ≡ said.Refused 13) × (¬ Answering three cameBack 5 1)
-  pub back : (saidAt three cameBack 5 ≡ said.Back 1) × (saidAt three cameBack 6 ≡ said.Served 0) × Answering three cameBack 6 1
+  pub away : (saidAt three cameBack 4 ≡ said.Refused 13) × (¬ Answering (traceOf three cameBack) 5 1)
+  pub back : (saidAt three cameBack 5 ≡ said.Back 1) × (saidAt three cameBack 6 ≡ said.Served 0) × Answering (traceOf three cameBack) 6 1
   pub went-on : saidAt three cameBack 7 ≡ said.WriteIssued (suits.single 7)
   pub not-away : saidAt three cameBack 8 ≡ said.Refused 23
-  pub away-from : AwayFrom three cameBack 1 3 5
+  pub away-from : AwayFrom (traceOf three cameBack) 1 3 5
   -- with 3 of 5 boxes away and one of them back, whatever revision station 0 offers
-  pub alone-back : (v : Suit) → FourBytes v → DrivenAlone five oneBack 0 v (soloOf (floorLeft five oneBack) 0 v)
-  -- J: with 2 of 5 boxes stopped, whatever revision station 0 offers
-  pub alone : (v : Suit) → FourBytes v → DrivenAlone five stops 0 v (soloOf (floorLeft five stops) 0 v)
-  pub thirteen : (v : Suit) → FourBytes v → soloOf (floorLeft five stops) 0 v .steps ≡ 13
+  pub alone-back : (v : Suit) → FourBytes v → DrivenAlone five oneBack 0 v 13 (soloOf (floorLeft five oneBack) 0 v)
+  -- J: with 2 of 5 boxes stopped, whatever revision station 0 offers: 13 steps
+  pub alone : (v : Suit) → FourBytes v → DrivenAlone five stops 0 v 13 (soloOf (floorLeft five stops) 0 v)
   -- behind I station 0 is idle after its abort, and two of three boxes hold another's revision; whatever it offers
-  pub idle-behind : IdleAt three exampleI 0 (length exampleI)
+  pub idle-behind : IdleAt (traceOf three exampleI) 0 (length exampleI)
   pub held-behind : (heldAt 0 ≡ suits.single 7) × (heldAt 1 ≡ suits.single 9) × (heldAt 2 ≡ suits.single 9)
-  pub alone-behind : (v : Suit) → FourBytes v → DrivenAlone three exampleI 0 v (soloOf (floorLeft three exampleI) 0 v)
+  pub alone-behind : (v : Suit) → FourBytes v → DrivenAlone three exampleI 0 v 9 (soloOf (floorLeft three exampleI) 0 v)

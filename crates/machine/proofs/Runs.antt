@@ -10,12 +10,13 @@ use mathlib.Core.List.{[], _∷_, List·Memᴰ, List·Memᴰ·head, List·Memᴰ
 use Rattle.base.specs.Numbers.{rankOf}
 use Rattle.base.specs.Quorum.{Majority}
 use Rattle.base.proofs.Cases.{clash, up-to}
+use Rattle.base.specs.Positions.{Before}
 use Rattle.base.proofs.QuorumLaws.{majority-map}
 use Rattle.requests.specs.declared.Phase.{Phase}
 use Rattle.requests.specs.declared.Phase.the-variants.{Read, Write}
 use Rattle.protocol.specs.View.{Chosen}
 use Rattle.protocol.specs.Claims.{Claims}
-use Rattle.protocol.specs.Trace.{Event, read, nack, issued, took, refused, note, view, Served, by-read, by-write, Outranked}
+use Rattle.protocol.specs.Trace.{Event, read, nack, issued, took, refused, note, view, Granted, by-read, by-write, Outranked}
 use Rattle.protocol.specs.Trace as theory
 use Rattle.protocol.proofs.Theory.{theory}
 use Rattle.requests.specs.declared.Stage.{Stage}
@@ -23,16 +24,10 @@ use Rattle.requests.specs.declared.Stage.the-variants.{Unissued, Waiting, Answe
 use Rattle.machine.specs.Machine.{Machine, Label, Row, Same, RowMoved, began, reading, writing}
 use Rattle.machine.specs.Machine as machine
 use Rattle.machine.specs.Rules.{Rule, Made, Fits}
-use Rattle.machine.specs.Runs.{Before, Run, Attempt, Named, RowOf, DecidedAt, OfferedAt, OfferedBefore, HeldAt, ServedAt, OutrankedAt, TakenAt, IssuedAt, SafetyTheorem}
+use Rattle.machine.specs.Runs.{Run, Attempt, Named, RowOf, DecidedAt, OfferedAt, OfferedBefore, HeldAt, GrantedAt, OutrankedAt, TakenAt, IssuedAt, SafetyTheorem}
 use Rattle.machine.proofs.Shows.{Note, begun, nothing, History, Begun, OfferedIn, SeatShows, Shows}
+use Rattle.base.proofs.Positions.{later, now}
 use Rattle.machine.proofs.Steps.{eventOf, step-to, decided-chosen, Beaten, aborted-beaten, heard-same}
-
--- what held before i, and what holds at i, held before suc i
-pub later : {P : ℕ → Type 0} {i : ℕ} → Before P i → Before P (suc i)
-later x = record { at = x .at; earlier = omega (arith, x .earlier); holds = x .holds }
-
-pub now : {P : ℕ → Type 0} (i : ℕ) → P i → Before P (suc i)
-now i p = record { at = i; earlier = omega arith; holds = p }
 
 module _ {A O : Type 0} {n : ℕ} {R : Rule A O} (F : Fits R) (k : Run n R) where
   abbrev eventAt : ℕ → Event A (Note O)
@@ -81,10 +76,10 @@ module _ {A O : Type 0} {n : ℕ} {R : Rule A O} (F : Fits R) (k : Run n R) wher
 
   -- what an event came of
   abbrev Cause : ℕ → Event A (Note O) → Type 0
-  Cause j (read r b w v) = ServedAt k r b j
+  Cause j (read r b w v) = GrantedAt k r b j
   Cause j (nack r b) = Unit {0}
   Cause j (issued r v) = IssuedAt k r v j
-  Cause j (took r b) = ServedAt k r b j
+  Cause j (took r b) = GrantedAt k r b j
   Cause j (refused r b) = Unit {0}
   Cause j (note (begun o)) = OfferedAt k o j
   Cause j (note nothing) = Unit {0}
@@ -105,9 +100,9 @@ module _ {A O : Type 0} {n : ℕ} {R : Rule A O} (F : Fits R) (k : Run n R) wher
   pub caused : (e : Event A (Note O)) (i : ℕ) → List·Memᴰ e (history i) → Before (λ j. Cause j e) i
   caused e i m = let x = happened e i m in record { at = x .at; earlier = x .earlier; holds = subst (Cause (x .at)) (sym (x .holds)) (cause (x .at) (k .step (x .at)) refl) }
 
-  served-before : (i r b : ℕ) → Served (history i) r b → Before (ServedAt k r b) i
-  served-before i r b (by-read {w = w} {v = v} m) = caused (read r b w v) i m
-  served-before i r b (by-write m) = caused (took r b) i m
+  granted-before : (i r b : ℕ) → Granted (history i) r b → Before (GrantedAt k r b) i
+  granted-before i r b (by-read {w = w} {v = v} m) = caused (read r b w v) i m
+  granted-before i r b (by-write m) = caused (took r b) i m
 
   -- a value decided at i was chosen, and stays so
   chosen-at : (i t : ℕ) (v : A) → i ≤ t → (d : DecidedAt k v i) → Chosen n (view (OfferedIn R) (k .at t .box) (history t)) (k .at i .row (d .row) .rank) v
@@ -144,7 +139,7 @@ module _ {A O : Type 0} {n : ℕ} {R : Rule A O} (F : Fits R) (k : Run n R) wher
       let q = subst (machine.Step n (R .Makes) (k .at i) (k .at (suc i))) e (k .step i) in
       let c = aborted-beaten n R F (reached i .shows) p a b q in
       let o = outranked-by i (k .at i .row a .rank) p (c .0) (reached i .shows .rows a (aborts-in q) .positive) (c .1) in
-      record { rank = o .rank; box = c .0; higher = o .higher; served = served-before i (o .rank) (c .0) (o .served) }
+      record { rank = o .rank; box = c .0; higher = o .higher; granted = granted-before i (o .rank) (c .0) (o .granted) }
 
   -- what was issued at i is noted from then on
   issued-noted : (i z r : ℕ) (v : A) → i < z → IssuedAt k r v i → List·Memᴰ (issued r v) (history z)

@@ -3,6 +3,7 @@ use Prim.Native.Nat.{ℕ, suc, _<_}
 use mathlib.Core.Path.{_≡_}
 use mathlib.Core.Logic.{_⊎_}
 use mathlib.Core.Bool.{true}
+use Rattle.base.specs.Positions.{Before}
 use Rattle.base.specs.Numbers.{rankOf}
 use Rattle.base.specs.Quorum.{Majority}
 use Rattle.requests.specs.declared.Phase.{Phase}
@@ -10,12 +11,6 @@ use Rattle.requests.specs.declared.Phase.the-variants.{Write}
 use Rattle.requests.specs.declared.Stage.the-variants.{Unissued, Answered}
 use Rattle.machine.specs.Machine.{Machine, Label, none, reading, writing, began, served, issued, decided, aborted, askedOf, Step}
 use Rattle.machine.specs.Rules.{Rule, Fits, Made}
-
--- P holds at a position before i
-pub record Before (P : ℕ → Type 0) (i : ℕ) : Type 0 where
-  pub at : ℕ
-  pub earlier : at < i
-  pub holds : P at
 
 -- Figure 3, "Initially x = ⟨r0, r0, ⊥⟩"; no attempt is begun.
 pub record New {A O : Type 0} (start : A) (x : Machine A O) : Type 0 where
@@ -77,8 +72,8 @@ module _ {A O : Type 0} {n : ℕ} {R : Rule A O} (k : Run n R) where
   abbrev pub HeldAt : (w : ℕ) (v : A) (i : ℕ) → Type 0
   HeldAt w v i = (w ≡ 0 → v ≡ R .start) × (0 < w → OfferedBefore v i)
 
-  -- the rank r was served at the box b by the step at i: its read was answered, or its write taken
-  pub record ServedAt (r b i : ℕ) : Type 0 where
+  -- the rank r was granted at the box b by the step at i: its read was answered, or its write taken
+  pub record GrantedAt (r b i : ℕ) : Type 0 where
     pub phase : Phase
     pub row : ℕ
     pub used : k .at i .Used row
@@ -89,7 +84,7 @@ module _ {A O : Type 0} {n : ℕ} {R : Rule A O} (k : Run n R) where
     pub rank : ℕ
     pub box : ℕ
     pub higher : r < rank
-    pub served : Before (ServedAt rank box) i
+    pub granted : Before (GrantedAt rank box) i
 
   -- the write of the rank r was served at the box b, and taken
   pub record TakenAt (r b i : ℕ) : Type 0 where
@@ -110,7 +105,7 @@ module _ {A O : Type 0} {n : ℕ} {R : Rule A O} (k : Run n R) where
     -- a value decided is made of offers begun before (Theorem 1), and by the rule from its attempt's own
     pub validity : (i : ℕ) (v : A) → DecidedAt v i → OfferedBefore v i
     pub made : (i : ℕ) (v : A) (d : DecidedAt v i) → Made R (k .at i .row (d .row) .offer) v
-    -- before an attempt aborts, a rank above its own was served at a box (Property 2, Non-Triviality)
+    -- before an attempt aborts, a rank above its own was granted at a box (Property 2, Non-Triviality)
     pub abort : (i : ℕ) (p : Phase) (a b : ℕ) → k .said i ≡ aborted p a b → OutrankedAt (k .at i .row a .rank) i
     -- a write that was taken at a majority of the boxes is settled (Lemma 1): every value issued at a higher rank, earlier or later, follows it
     pub settled : (t i j s r : ℕ) (u v : A) → Majority n (λ b. Before (TakenAt s b) t) → IssuedAt s u i → IssuedAt r v j → s < r → R .Follows u v

@@ -42,15 +42,17 @@ use Rattle.attempts.specs.declared.Station as seated
 use Rattle.attempts.proofs.Answers.{best-found, revision-offer, revision-value}
 use Rattle.attempts.proofs.StationTests.{is-reading, is-writing, is-idle}
 use Rattle.floor.specs.Floors.{boxAt, stationAt, rowAt, ownerAt, registerAt, departmentAt, InUse, withRegister, withRow}
-use Rattle.floor.specs.Departments.{belongs, SameFor, Owned}
-use Rattle.floor.specs.Claims.{Sound, Lengths, CanBegin, CanServe, CanDeliver, CanLeave}
+use Rattle.floor.specs.Departments.{Belonging, only, shared, departmentOf, isOnly, SameFor, Owned}
+use Rattle.floor.specs.Soundness.{Sound, Lengths}
+use Rattle.floor.specs.Tests.{CanBegin, CanServe, CanDeliver, CanLeave}
 use Rattle.floor.specs.Effects.{rowTaken, beginner, afterBegin, servedBy, afterServe, heardRow, afterIssue, afterDecision, decider, afterAbort, afterLeave}
 use Rattle.floor.specs.declared.Floor.{Floor}
 use Rattle.floor.specs.declared.Share.{Share}
 use Rattle.floor.specs.declared.Stepped.{Stepped}
 use Rattle.floor.proofs.UseLaws.{in-use-most, use-of, of-use}
 use Rattle.floor.proofs.FreeLaws.{next-own, next-over}
-use Rattle.floor.proofs.Keeps.{row-stored, used-stored, begun-use, use-begun, taken-use}
+use Rattle.floor.proofs.StoredLaws.{row-stored, used-stored}
+use Rattle.floor.proofs.BegunUse.{begun-use, use-begun, taken-use}
 use Rattle.floor.proofs.DepartmentLaws.{case-untouched}
 use Rattle.floor.proofs.StepCases.{StepCase, turned, began, served, heard, decided, aborted, stopped, left, returned, step-case}
 use Rattle.floor.proofs.StepCases as cases
@@ -303,7 +305,7 @@ module _ {f : Floor} (a b : ℕ) (o : Owned f) (y : Lengths f) (z : Sound f) whe
         (seat-edit (d .used) went refl refl)
 
 -- A begin.
-inactive : (p : State) (a : ℕ) → isActive p a ≡ false → (¬ (seatIn p ≡ reading a)) × (¬ (seatIn p ≡ writing a))
+inactive : (st : State) (a : ℕ) → isActive st a ≡ false → (¬ (seatIn st ≡ reading a)) × (¬ (seatIn st ≡ writing a))
 inactive state.Idle a e = (λ q. let k : _≡_ {A = ℕ} 0 1 = cc in omega arith, λ q. let k : _≡_ {A = ℕ} 0 1 = cc in omega arith)
 inactive (state.Reading x) a e = (λ q. clash (eq-eqb x a (cc)) e, λ q. let k : _≡_ {A = ℕ} 0 1 = cc in omega arith)
 inactive (state.Writing x) a e = (λ q. let k : _≡_ {A = ℕ} 0 1 = cc in omega arith, λ q. clash (eq-eqb x a (cc)) e)
@@ -320,7 +322,7 @@ begin-step {f} s round v o y z d =
     let below : s < 16 = omega (arith, d .station, z .station-most) in
     let later : stationFor e (stationAt f s) .last < round = omega (arith, ap (λ (t : Station). t .last) me, d .later) in
     machine.begin (λ j. refl) below
-    (ap (λ (t : Station). t .seat) me ∙ ap seatIn (is-idle (stationAt f s .state) (d .here) (d .free)))
+    (ap (λ (t : Station). t .seat) me ∙ ap seatIn (is-idle (stationAt f s .state) (d .here) (d .not-busy)))
     later
     (record {
       over = λ h.
@@ -360,24 +362,35 @@ leave-step {f} s y z d =
     (station-edit e f y s t (omega (arith, d .station, z .station-most)) refl (λ x. record { seat = none; last = x .last })
     (ap (λ (i : ℕ). record { seat = none; last = i }) (ap (λ (x : Station). x .last) (sym (seen-own e (stationAt f s) refl)))))
 
-step-within : {f : Floor} {c : Command} {s : Stepped} (x : StepCase f c s) → Owned f → (d e : Department) (t : Label Suit Suit) → (isOf d e ≡ false → belongs f d c ≡ false)
-    → StepIn e f (s .floor) t → StepIn d f (s .floor) (within d e t)
-step-within x o Sails Sails t b k = k
-step-within x o Canvas Canvas t b k = k
-step-within x o Sails Canvas t b k = other-step Sails (case-untouched x Sails o (b refl))
-step-within x o Canvas Sails t b k = other-step Canvas (case-untouched x Canvas o (b refl))
+-- a step that says nothing
+pub quiet-within : (d : Department) (x : Belonging) → machine.quiet ≡ within d x machine.quiet
+quiet-within Sails (only Sails) = refl
+quiet-within Sails (only Canvas) = refl
+quiet-within Canvas (only Sails) = refl
+quiet-within Canvas (only Canvas) = refl
+quiet-within Sails shared = refl
+quiet-within Canvas shared = refl
+
+-- a step of the department e, seen in d
+module _ {f : Floor} {c : Command} {s : Stepped} (x : StepCase f c s) (o : Owned f) where
+  step-within : (d e : Department) (t : Label Suit Suit) → departmentOf f c ≡ only e → StepIn e f (s .floor) t → StepIn d f (s .floor) (within d (only e) t)
+  step-within Sails Sails t q k = k
+  step-within Canvas Canvas t q k = k
+  step-within Sails Canvas t q k = other-step Sails (case-untouched x Sails o (ap (isOnly Sails) q))
+  step-within Canvas Sails t q k = other-step Canvas (case-untouched x Canvas o (ap (isOnly Canvas) q))
 
 -- the simulation
 simulation : {f : Floor} {c : Command} {s : Stepped} (e : Department) → Owned f → Lengths f → (x : StepCase f c s) → StepIn e f (s .floor) (labelOf e f c (s .outcome))
-simulation {f} e o y (turned k t) = machine.rest (λ j. refl) (record { used = λ j h. h; still = λ j h. h; same = λ j h. refl }) (λ j. refl)
-simulation {f} e o y (began {s = s} {round = r} {v = v} z d) = step-within (began z d) o e (departmentAt f s) _ (λ q. q) (begin-step s r v o y z d)
-simulation e o y (served {p = p} {a = a} {b = b} z d) = step-within (served z d) o e (rowDepartment a) _ (λ q. q) (serve-step p a b y z d)
-simulation e o y (heard {p = p} {a = a} {b = b} z d q) = step-within (heard z d q) o e (rowDepartment a) _ (λ q. q) (heard-step a b o y z p d)
-simulation e o y (cases.issued {a = a} {b = b} z d r q t) = step-within (cases.issued z d r q t) o e (rowDepartment a) _ (λ q. q) (issue-step a b o y z d r q t)
-simulation e o y (decided {a = a} {b = b} z d r q t) = step-within (decided z d r q t) o e (rowDepartment a) _ (λ q. q) (decision-step a b o y z d r q t)
-simulation e o y (aborted {p = p} {a = a} {b = b} z d r t q) = step-within (aborted z d r t q) o e (rowDepartment a) _ (λ q. q) (abort-step a b o y z p d t)
-simulation {f} e o y (stopped {b = b} z d) = other-step e (case-untouched (stopped z d) e o refl)
-simulation {f} e o y (left {s = s} z d) = step-within (left z d) o e (departmentAt f s) _ (λ q. q) (leave-step s y z d)
+simulation {f} {c} e o y (turned k t) =
+    subst (StepIn e f f) (quiet-within e (departmentOf f c)) (machine.rest (λ j. refl) (record { used = λ j h. h; still = λ j h. h; same = λ j h. refl }) (λ j. refl))
+simulation {f} e o y (began {s = s} {round = r} {v = v} z d) = step-within (began z d) o e (departmentAt f s) _ refl (begin-step s r v o y z d)
+simulation e o y (served {p = p} {a = a} {b = b} z d) = step-within (served z d) o e (rowDepartment a) _ refl (serve-step p a b y z d)
+simulation e o y (heard {p = p} {a = a} {b = b} z d q) = step-within (heard z d q) o e (rowDepartment a) _ refl (heard-step a b o y z p d)
+simulation e o y (cases.issued {a = a} {b = b} z d r q t) = step-within (cases.issued z d r q t) o e (rowDepartment a) _ refl (issue-step a b o y z d r q t)
+simulation e o y (decided {a = a} {b = b} z d r q t) = step-within (decided z d r q t) o e (rowDepartment a) _ refl (decision-step a b o y z d r q t)
+simulation e o y (aborted {p = p} {a = a} {b = b} z d r t q) = step-within (aborted z d r t q) o e (rowDepartment a) _ refl (abort-step a b o y z p d t)
+simulation e o y (stopped {b = b} z d) = other-step e (case-untouched (stopped z d) e o refl)
+simulation {f} e o y (left {s = s} z d) = step-within (left z d) o e (departmentAt f s) _ refl (leave-step s y z d)
 simulation e o y (returned {b = b} z d) = other-step e (case-untouched (returned z d) e o refl)
 
 pub simulates : Simulates

@@ -27,8 +27,8 @@ use Rattle.commands.specs.declared.Outcome.{Outcome}
 use Rattle.commands.specs.declared.Outcome.the-variants as said
 use Rattle.requests.specs.declared.Phase.{Phase}
 use Rattle.requests.specs.declared.Phase.the-variants.{Read, Write}
-use Rattle.floor.specs.Claims.{Lengths}
-use Rattle.floor.specs.Departments.{Owned}
+use Rattle.floor.specs.Soundness.{Lengths}
+use Rattle.floor.specs.Departments.{Belonging, only, shared, departmentOf, Owned}
 use Rattle.floor.specs.Effects.{servedBy}
 use Rattle.floor.specs.Step.{stepOf}
 use Rattle.protocol.specs.Trace.{Box}
@@ -82,12 +82,13 @@ panel d f = record {
   station = λ j. stationFor d (stationAt f j);
 }
 
--- What a step says in the department d: nothing where it is of the other.
-abbrev pub within : (d e : Department) → Label Suit Suit → Label Suit Suit
-within Sails Sails x = x
-within Sails Canvas x = machine.quiet
-within Canvas Sails x = machine.quiet
-within Canvas Canvas x = x
+-- What a step that belongs to x says in the department d: nothing where it is of the other, or shared.
+abbrev pub within : (d : Department) (x : Belonging) → Label Suit Suit → Label Suit Suit
+within Sails (only Sails) t = t
+within Sails (only Canvas) t = machine.quiet
+within Canvas (only Sails) t = machine.quiet
+within Canvas (only Canvas) t = t
+within d shared t = machine.quiet
 
 -- what the box answers to the request: yes where a read is answered or a write taken
 abbrev pub answersTo : Floor → Phase → ℕ → ℕ → Bool
@@ -122,19 +123,23 @@ ofDelivery t (Leave s) = machine.quiet
 ofDelivery t (Return b) = machine.quiet
 ofDelivery t Malformed = machine.quiet
 
--- What the step with the command c on the floor f says in the department d, where it said the outcome.
-module _ (d : Department) (f : Floor) (c : Command) where
-  abbrev pub labelOf : Outcome → Label Suit Suit
-  labelOf (said.Begun a) = ofBegin (λ s round v. within d (departmentAt f s) (machine.began s round v a)) c
-  labelOf (said.Served a) = ofServe (λ p i b. within d (rowDepartment i) (machine.served p i b (answersTo f p i b))) c
-  labelOf (said.Received a) = ofDelivery (λ p i b. within d (rowDepartment i) (machine.heard p i b)) c
-  labelOf (said.Aborted a) = ofDelivery (λ p i b. within d (rowDepartment i) (machine.aborted p i b)) c
-  labelOf (said.WriteIssued v) = ofDelivery (λ p i b. within d (rowDepartment i) (machine.issued i b v)) c
-  labelOf (said.Decided v) = ofDelivery (λ p i b. within d (rowDepartment i) (machine.decided i b v)) c
-  labelOf (said.Stopped b) = machine.quiet
-  labelOf (said.Gone s) = within d (departmentAt f s) (machine.left s)
-  labelOf (said.Back b) = machine.quiet
-  labelOf (said.Refused k) = machine.quiet
+-- What the step with the command c on the floor f says, where it said the outcome,
+module _ (f : Floor) (c : Command) where
+  abbrev pub saysOf : Outcome → Label Suit Suit
+  saysOf (said.Begun a) = ofBegin (λ s round v. machine.began s round v a) c
+  saysOf (said.Served a) = ofServe (λ p i b. machine.served p i b (answersTo f p i b)) c
+  saysOf (said.Received a) = ofDelivery (λ p i b. machine.heard p i b) c
+  saysOf (said.Aborted a) = ofDelivery (λ p i b. machine.aborted p i b) c
+  saysOf (said.WriteIssued v) = ofDelivery (λ p i b. machine.issued i b v) c
+  saysOf (said.Decided v) = ofDelivery (λ p i b. machine.decided i b v) c
+  saysOf (said.Stopped b) = machine.quiet
+  saysOf (said.Gone s) = machine.left s
+  saysOf (said.Back b) = machine.quiet
+  saysOf (said.Refused k) = machine.quiet
+
+-- and what of it in the department d
+abbrev pub labelOf : (d : Department) (f : Floor) (c : Command) → Outcome → Label Suit Suit
+labelOf d f c o = within d (departmentOf f c) (saysOf f c o)
 
 -- What is claimed (the field's term is a forward simulation): every step of the floor is, in each department, a step of the machine, and says
 -- what it said.

@@ -1,8 +1,8 @@
 -- The start has the invariant, each step keeps it, and it settles what a majority took.
 use Prim.Native.Nat.{ℕ, _≤_, _<_}
 use native.Mathlib.Omega.{arith}
-use Rattle.protocol.specs.Voting.{LawfulVotes, Backed, Casts, Advance}
-use Rattle.protocol.specs.View.{View, Chosen, Answer, Returns, kept, stored, before, now, MayIssue, Transition, Start}
+use Rattle.protocol.specs.Voting.{ConsistentVotes, Backed, Casts, Advance}
+use Rattle.protocol.specs.View.{View, Chosen, AnswerUpTo, ReadReturns, kept, stored, before, now, MayIssue, Transition, Start}
 use Rattle.protocol.specs.Invariant.{CannotTake, ballots, Inv}
 use Rattle.protocol.specs.Claims.{Settled, Agreement}
 use Rattle.base.proofs.QuorumLaws.{at-least-map, at-least-meet, majority-map}
@@ -20,13 +20,13 @@ module _ {A : Type 0} (n : ℕ) (_⊑_ : A → A → Type 0) where
     sound = start-sound _⊑_ (s .no-issued);
   }
 
-  module _ {σ : View A} (i : Inv n _⊑_ σ) {r w : ℕ} {x : A} (q : Returns n σ r w x) where
+  module _ {σ : View A} (i : Inv n _⊑_ σ) {r w : ℕ} {x : A} (q : ReadReturns n σ r w x) where
     -- Safety over a majority (Lemma 5): a value returned was issued
     pub returns-issued : 0 < w → σ .Issued w x
     returns-issued p = i .source r (q .highest p .0) w x (q .highest p .1) p
 
     -- .. and a rank above the one returned, below the read's own, is taken by no box of the majority, ever
-    passed-over : (s : ℕ) → w < s → s < r → (b : ℕ) → Answer σ r w b → CannotTake σ s b
+    passed-over : (s : ℕ) → w < s → s < r → (b : ℕ) → AnswerUpTo σ r w b → CannotTake σ s b
     passed-over s h k b a = record {
       untaken = λ t. omega (arith, i .sees r b (a .rank) (a .value) (a .read) s k t, a .at-most);
       passed = omega (arith, i .promised r b (a .rank) (a .value) (a .read));
@@ -105,7 +105,7 @@ module _ {A : Type 0} (n : ℕ) (_⊑_ : A → A → Type 0) where
 
   module _ {σ : View A} (i : Inv n _⊑_ σ) where
     -- any two majorities share a box
-    ballots-lawful : LawfulVotes (ballots n σ)
+    ballots-lawful : ConsistentVotes (ballots n σ)
     ballots-lawful = record {
       above-start = λ r w. let m = at-least-meet (omega arith) w w in i .taken r (m .0) (m .2) .0;
       exclusive = λ r w d. let m = at-least-meet (omega arith) w d in m .3 .untaken (m .2);

@@ -8,7 +8,7 @@ use native.Mathlib.Nat.{eq-or-lt-of-le}
 use native.Mathlib.Omega.{arith}
 use Rattle.protocol.specs.View.{Stored, kept, stored, Took, Answered, Wrote, MayIssue, Transition}
 use Rattle.protocol.specs.Invariant.{Inv}
-use Rattle.protocol.specs.Trace.{Box, readBox, writeBox, Event, read, nack, issued, took, refused, there, other, view, Served, by-read, by-write, Outranked, Step, serve-read, serve-nack, issue, take, refuse, other-event, Run, new, next}
+use Rattle.protocol.specs.Trace.{Box, readBox, writeBox, Event, read, nack, issued, took, refused, there, other, view, Granted, by-read, by-write, Outranked, Step, serve-read, serve-nack, issue, take, refuse, other-event, Run, new, next}
 use Rattle.protocol.specs.Claims.{Persistent}
 use Rattle.protocol.proofs.Invariance.{start-inv, transition-inv}
 
@@ -29,16 +29,16 @@ module _ {A N : Type 0} where
     raised : {r w : ℕ} {v : A} → read r j w v ≡ e → y j ≡ readBox r (x j) → Change x l y e j
     written : {r : ℕ} {v : A} → took r j ≡ e → List·Memᴰ (issued r v) l → x j .writeRank < r → y j ≡ writeBox r v (x j) → Change x l y e j
 
-  pub served-more : {l : List (Event A N)} {r b : ℕ} (e : Event A N) → Served l r b → Served (e ∷ l) r b
-  served-more e (by-read m) = by-read (List·Memᴰ·tail m)
-  served-more e (by-write m) = by-write (List·Memᴰ·tail m)
+  pub granted-more : {l : List (Event A N)} {r b : ℕ} (e : Event A N) → Granted l r b → Granted (e ∷ l) r b
+  granted-more e (by-read m) = by-read (List·Memᴰ·tail m)
+  granted-more e (by-write m) = by-write (List·Memᴰ·tail m)
 
   pub outranked-more : {l : List (Event A N)} {r b : ℕ} (e : Event A N) → Outranked l r b → Outranked (e ∷ l) r b
-  outranked-more e k = record { rank = k .rank; higher = k .higher; served = served-more e (k .served) }
+  outranked-more e k = record { rank = k .rank; higher = k .higher; granted = granted-more e (k .granted) }
 
   -- the ranks that boxes hold are of attempts served there
   pub record Known (x : ℕ → Box A) (l : List (Event A N)) : Type 0 where
-    pub readers : (b : ℕ) → 0 < x b .readRank → Served l (x b .readRank) b
+    pub readers : (b : ℕ) → 0 < x b .readRank → Granted l (x b .readRank) b
     pub writers : (b : ℕ) → 0 < x b .writeRank → List·Memᴰ (took (x b .writeRank) b) l
 
   module _ (n : ℕ) (_⊑_ : A → A → Type 0) (Offered : List (Event A N) → A → Type 0) where
@@ -118,8 +118,8 @@ module _ {A N : Type 0} where
           ];
         }
           where
-            reader : {t : ℕ} (j : ℕ) → t ≡ x j .readRank → 0 < t → Served (e ∷ l) t j
-            reader j q p = rw q (served-more e (k .readers j (omega arith)))
+            reader : {t : ℕ} (j : ℕ) → t ≡ x j .readRank → 0 < t → Granted (e ∷ l) t j
+            reader j q p = rw q (granted-more e (k .readers j (omega arith)))
 
             writer : {t : ℕ} (j : ℕ) → t ≡ x j .writeRank → 0 < t → List·Memᴰ (took t j) (e ∷ l)
             writer j q p = List·Memᴰ·tail {xs = l} (rw q (k .writers j (omega arith)))
@@ -157,10 +157,10 @@ module _ {A N : Type 0} where
     pub refused-outranked : {x y : ℕ → Box A} {l : List (Event A N)} {r b : ℕ} → Known x l → 0 < r → Step n _⊑_ Offered x l y (refused r b)
         → ¬ List·Memᴰ (took r b) l → Outranked l r b
     refused-outranked {x} {b = b} k p (refuse _ c) f = elim c [
-      | inl h ↦ record { rank = x b .readRank; higher = omega arith; served = k .readers b (omega arith) }
+      | inl h ↦ record { rank = x b .readRank; higher = omega arith; granted = k .readers b (omega arith) }
       | inr h ↦ elim (eq-or-lt-of-le h) [
         | inl z ↦ absurd (f (rw z (k .writers b (omega arith))))
-        | inr o ↦ record { rank = x b .writeRank; higher = omega arith; served = by-write (k .writers b (omega arith)) }
+        | inr o ↦ record { rank = x b .writeRank; higher = omega arith; granted = by-write (k .writers b (omega arith)) }
       ]
     ]
 
@@ -175,8 +175,8 @@ module _ {A N : Type 0} where
     -- a read that a box tells so was outranked
     pub told-outranked : {x y : ℕ → Box A} {l : List (Event A N)} {r b : ℕ} → Known x l → Step n _⊑_ Offered x l y (nack r b) → Outranked l r b
     told-outranked {x} {b = b} k (serve-nack _ c) = elim c [
-      | inl h ↦ record { rank = x b .readRank; higher = omega arith; served = k .readers b (omega arith) }
-      | inr h ↦ record { rank = x b .writeRank; higher = omega arith; served = by-write (k .writers b (omega arith)) }
+      | inl h ↦ record { rank = x b .readRank; higher = omega arith; granted = k .readers b (omega arith) }
+      | inr h ↦ record { rank = x b .writeRank; higher = omega arith; granted = by-write (k .writers b (omega arith)) }
     ]
 
     pub nack-outranked : {x : ℕ → Box A} {l : List (Event A N)} → Run n _⊑_ Offered x l → (r b : ℕ) → List·Memᴰ (nack r b) l → Outranked l r b

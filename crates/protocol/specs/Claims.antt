@@ -2,7 +2,7 @@
 -- proofs/Theory.
 use mathlib.Core.List.{List, _∷_, List·Memᴰ}
 use Prim.Native.Nat.{ℕ, _≤_, _<_}
-use Rattle.protocol.specs.View.{View, Chosen, Returns, Transition, Start}
+use Rattle.protocol.specs.View.{View, Chosen, ReadReturns, Transition, Start}
 use Rattle.protocol.specs.Invariant.{Inv}
 use Rattle.protocol.specs.Trace.{Box, Event, read, nack, issued, took, refused, view, Outranked, Step, Run}
 
@@ -54,8 +54,8 @@ module _ {A N : Type 0} (n : ℕ) (_⊑_ : A → A → Type 0) (Offered : List (
     pub nack-before : (y : ℕ → Box A) (r b : ℕ) → Step n _⊑_ Offered x l y (nack r b) → Outranked l r b
     -- Lemma 5, Safety over a majority: what a read returns above the start rank was issued, and it sees each lower-ranked write that
     -- a majority takes, earlier or later
-    pub returned-issued : (r w : ℕ) (v : A) → Returns n (view Offered x l) r w v → 0 < w → List·Memᴰ (issued w v) l
-    pub returned-sees : (r w : ℕ) (v : A) → Returns n (view Offered x l) r w v → (s : ℕ) (u : A) → Chosen n (view Offered x l) s u → s < r → s ≤ w
+    pub returned-issued : (r w : ℕ) (v : A) → ReadReturns n (view Offered x l) r w v → 0 < w → List·Memᴰ (issued w v) l
+    pub returned-sees : (r w : ℕ) (v : A) → ReadReturns n (view Offered x l) r w v → (s : ℕ) (u : A) → Chosen n (view Offered x l) s u → s < r → s ≤ w
     -- Lemma 1
     pub settled : Settled n _⊑_ (view Offered x l)
     -- Theorem 1: agreement, and validity: each value issued was offered, and before it was issued

@@ -2,7 +2,7 @@
 use Prim.Native.Nat.{ℕ, _≤_, _<_}
 use Rattle.base.specs.Quorum.{Majority}
 use Rattle.protocol.specs.View.{View}
-use Rattle.protocol.specs.Voting.{Votes, SoundVotes}
+use Rattle.protocol.specs.Voting.{Votes, VotesInv}
 
 -- The box b has not taken the write of rank r, and never will: it served a read of a higher rank (Lamport's CannotVoteAt).
 pub record CannotTake {A : Type 0} (σ : View A) (r b : ℕ) : Type 0 where
@@ -27,4 +27,4 @@ module _ {A : Type 0} (n : ℕ) (_⊑_ : A → A → Type 0) where
     pub source : (r b w : ℕ) (x : A) → σ .Read r b w x → 0 < w → σ .Issued w x
     pub sees : (r b w : ℕ) (x : A) → σ .Read r b w x → (s : ℕ) → s < r → σ .Taken s b → s ≤ w
     -- a rank is used for one value, and a value issued is safe from every lower rank and was offered
-    pub sound : SoundVotes _⊑_ (ballots n σ)
+    pub sound : VotesInv _⊑_ (ballots n σ)

@@ -15,7 +15,7 @@ pub record Votes (A : Type 0) : Type 1 where
   pub Offered : (v : A) → Type 0
 
 -- What has to hold in each state: the start rank is not won, and no rank is both won and lost.
-pub record LawfulVotes {A : Type 0} (σ : Votes A) : Type 0 where
+pub record ConsistentVotes {A : Type 0} (σ : Votes A) : Type 0 where
   pub above-start : (r : ℕ) → σ .Won r → 0 < r
   pub exclusive : (r : ℕ) → σ .Won r → ¬ (σ .Lost r)
 
@@ -38,7 +38,7 @@ module _ {A : Type 0} (_⊑_ : A → A → Type 0) where
     follows : {u : A} → σ .Issued s u → u ⊑ v → Safe σ s v
 
   -- The invariant.
-  pub record SoundVotes (σ : Votes A) : Type 0 where
+  pub record VotesInv (σ : Votes A) : Type 0 where
     -- a rank is used for one value (the paper's Definition 1)
     pub unique : (r : ℕ) (u v : A) → σ .Issued r u → σ .Issued r v → u ≡ v
     -- a value issued is safe from every lower rank, begun or not

@@ -36,12 +36,13 @@ use Rattle.floor.specs.Floors.{boxAt, stationAt, rowAt, ownerAt, departmentAt, 
 use Rattle.floor.specs.Free.{betterIn, freeBelow, nextRow}
 use Rattle.floor.specs.Effects.{stepped, rowTaken, beginner, heardRow, decider, afterAbort, readEndedOn, writeEndedOn, verdictOn, heardOn, receivedOn, deliveredOn, withAway, effectOn}
 use Rattle.floor.specs.Step.{applyOf}
-use Rattle.floor.specs.Claims.{Sound, CanBegin, CanServe, CanDeliver}
-use Rattle.floor.specs.Departments.{SameFor, Owned}
+use Rattle.floor.specs.Soundness.{Sound}
+use Rattle.floor.specs.Tests.{CanBegin, CanServe, CanDeliver}
+use Rattle.floor.specs.Departments.{Belonging, only, shared, departmentOf, SameFor, Owned}
 use Rattle.floor.specs.declared.Share.{Share}
 use Rattle.floor.specs.declared.Floor.{Floor}
 use Rattle.floor.specs.declared.Stepped.{Stepped}
-use Rattle.floor.specs.declared.Lowest.{Lowest}
+use Rattle.places.specs.declared.Lowest.{Lowest}
 use Rattle.floor.proofs.UseLaws.{share-own, use-of, of-use}
 use Rattle.floor.proofs.FreeLaws.{next-unused, next-full}
 use Rattle.floor.proofs.RefusalLaws.{begin-means, begin-holds, serve-means, serve-holds, deliver-means, deliver-holds, stop-means, stop-holds, leave-means, leave-holds, return-means, return-holds}
@@ -156,8 +157,8 @@ module _ {d : Department} {f g : Floor} (k : Alike d f g) where
   }
 
   -- which row is free, and which one a begin takes
-  better-alike : (x : Lowest) (w : Row) (p : State) (a : ℕ) → betterIn x w p (g .n) a ≡ betterIn x w p (f .n) a
-  better-alike x w p a = rw (k .boxes) refl
+  better-alike : (x : Lowest) (w : Row) (st : State) (a : ℕ) → betterIn x w st (g .n) a ≡ betterIn x w st (f .n) a
+  better-alike x w st a = rw (k .boxes) refl
 
   used-alike : usedOf g d ≡ usedOf f d
   used-alike = ap (λ (x : Share). x .used) (k .same .share)
@@ -185,15 +186,10 @@ module _ {d : Department} {f g : Floor} (k : Alike d f g) where
           next-full g d (omega (arith, used-alike)) ∙ ap (λ (x : Lowest). x .row) (found-alike (omega arith) 64 (omega arith)) ∙ sym (next-full f d (omega arith))
     ]
 
--- the step belongs to the department, or puts a box away or brings it back
-abbrev pub KeptFor : (f : Floor) (d : Department) (c : Command) → Type 0
-KeptFor f d (Begin s round v) = departmentAt f s ≡ d
-KeptFor f d (Serve p a b) = rowDepartment a ≡ d
-KeptFor f d (Deliver p a b) = rowDepartment a ≡ d
-KeptFor f d (Stop b) = Unit {0}
-KeptFor f d (Leave s) = departmentAt f s ≡ d
-KeptFor f d (Return b) = Unit {0}
-KeptFor f d Malformed = Unit {0}
+-- the step belongs to the department, or is shared
+abbrev pub Kept : (d : Department) (x : Belonging) → Type 0
+Kept d (only e) = e ≡ d
+Kept d shared = Unit {0}
 
 -- a step on the one, and on the other
 pub record AlikeStep (d : Department) (x y : Stepped) : Type 0 where
@@ -273,7 +269,7 @@ module _ {d : Department} {f g : Floor} (k : Alike d f g) (o : Owned f) where
       record {
         station = omega (arith, c .station, k .stations);
         here = rw q (c .here);
-        free = rw q (c .free);
+        not-busy = rw q (c .not-busy);
         later = rw q (c .later);
         row = subst (λ (x : ℕ). x < 128) (sym (taken-alike s e)) (c .row);
       }
@@ -286,7 +282,7 @@ module _ {d : Department} {f g : Floor} (k : Alike d f g) (o : Owned f) where
       record {
         used = in-use-alike a e (c .used);
         box = omega (arith, c .box, k .boxes);
-        answers = k .away b ∙ c .answers;
+        not-away = k .away b ∙ c .not-away;
         waits = rw (k .same .rows a e) (c .waits);
       }
 
@@ -326,7 +322,7 @@ module _ {d : Department} {f g : Floor} (k : Alike d f g) (o : Owned f) where
   move-alike b t = alike-box k b _ _ (register-moved d (boxAt g b) t ∙ k .same .registers b ∙ sym (register-moved d (boxAt f b) t)) refl
 
   -- an accepted step of the department, or one that moves a box
-  effect-alike : (c : Command) → KeptFor f d c → refusalOn f c ≡ 0 → (refusalOn g c ≡ 0) × AlikeStep d (effectOn f c) (effectOn g c)
+  effect-alike : (c : Command) → Kept d (departmentOf f c) → refusalOn f c ≡ 0 → (refusalOn g c ≡ 0) × AlikeStep d (effectOn f c) (effectOn g c)
   effect-alike (Begin s round v) e h =
       let c = begin-means f s round h in
       (begin-holds g s round (can-begin s round e c), begin-alike s round v e)
@@ -340,7 +336,7 @@ module _ {d : Department} {f g : Floor} (k : Alike d f g) (o : Owned f) where
       (deliver-holds g p a b (can-deliver p a b e c), deliver-alike p a b e (c .used))
   effect-alike (Stop b) e h =
       let c = stop-means f b h in (
-        stop-holds g b (record { box = omega (arith, c .box, k .boxes); answers = k .away b ∙ c .answers }),
+        stop-holds g b (record { box = omega (arith, c .box, k .boxes); not-away = k .away b ∙ c .not-away }),
         record { outcome = refl; floor = move-alike b true },
       )
   effect-alike (Leave s) e h =
@@ -357,7 +353,7 @@ module _ {d : Department} {f g : Floor} (k : Alike d f g) (o : Owned f) where
   effect-alike Malformed e h = absurd (omega (arith, h))
 
   -- a step that f accepts
-  pub step-alike : Sound f → Sound g → (c : Command) → KeptFor f d c → refusalOn f c ≡ 0 → AlikeStep d (applyOf f c) (applyOf g c)
+  pub step-alike : Sound f → Sound g → (c : Command) → Kept d (departmentOf f c) → refusalOn f c ≡ 0 → AlikeStep d (applyOf f c) (applyOf g c)
   step-alike y z c e h =
       let q = effect-alike c e h in
       rw (apply-accepted f c y h, apply-accepted g c z (q .0)) (q .1)

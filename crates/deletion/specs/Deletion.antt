@@ -7,28 +7,25 @@ use mathlib.Core.List.{List, [], _∷_}
 use lib.ListN.{length, getD}
 use Rattle.base.specs.Choice.{if_then_else_}
 use Rattle.base.specs.Quorum.{count}
+use Rattle.register.specs.Register.{isOf}
 use Rattle.register.specs.declared.Department.{Department}
 use Rattle.commands.specs.Commands.{commandOf}
 use Rattle.commands.specs.Outcomes.{isRefused}
 use Rattle.commands.specs.declared.Command.{Command}
-use Rattle.commands.specs.declared.Command.the-variants.{Begin, Serve, Deliver, Stop, Leave, Return, Malformed}
 use Rattle.floor.specs.Floors.{boxAt}
-use Rattle.floor.specs.Departments.{belongs, SameFor}
-use Rattle.floor.specs.Runs.{floorAt, saidAt}
+use Rattle.floor.specs.Departments.{Belonging, only, shared, departmentOf, SameFor}
+use Rattle.floor.specs.Runs.{commandAt, floorAt, saidAt}
 use Rattle.floor.specs.declared.Floor.{Floor}
-use Rattle.agreement.specs.Words.{commandAt}
-use Rattle.agreement.specs.Demand.{firstFloor}
+use Rattle.floor.specs.Floors.{firstFloor}
 
--- The steps that are kept: those of the department d, and those that put boxes away and bring them back. "Only box stops, n and m are
--- shared"; wish 8: kinds 8 and 9 are "shared as kind 6".
+-- The steps that are kept: those of the department d, and those that are shared. "Only box stops, n and m are shared"; wish 8: kinds 8 and 9
+-- are "shared as kind 6".
+abbrev pub isKept : (d : Department) (x : Belonging) → Bool
+isKept d (only e) = isOf d e
+isKept d shared = true
+
 abbrev pub keeps : (f : Floor) (d : Department) (c : Command) → Bool
-keeps f d (Begin s round v) = belongs f d (Begin s round v)
-keeps f d (Serve p a b) = belongs f d (Serve p a b)
-keeps f d (Deliver p a b) = belongs f d (Deliver p a b)
-keeps f d (Stop b) = true
-keeps f d (Leave s) = belongs f d (Leave s)
-keeps f d (Return b) = true
-keeps f d Malformed = false
+keeps f d c = isKept d (departmentOf f c)
 
 -- the list without the others
 unfoldable pub keptOf : (f : Floor) (d : Department) (l : List (List ℕ)) → List (List ℕ)
@@ -42,9 +39,11 @@ placeOf f d l i = count (λ k. keeps f d (commandAt l k)) i
 pub record Deletion (f : Floor) (d : Department) (l : List (List ℕ)) : Type 0 where
   -- nothing else is kept
   pub size : length (keptOf f d l) ≡ placeOf f d l (length l)
-  -- a kept step is the same step, and says what it said
+  -- a kept step is the same step
   pub asked : (i : ℕ) → i < length l → keeps f d (commandAt l i) ≡ true → getD (keptOf f d l) (placeOf f d l i) [] ≡ getD l i []
-  pub said : (i : ℕ) → i < length l → keeps f d (commandAt l i) ≡ true → saidAt f (keptOf f d l) (placeOf f d l i) ≡ saidAt f l i
+  -- one of the department says what it said, and so does a shared one
+  pub own : (i : ℕ) → i < length l → departmentOf f (commandAt l i) ≡ only d → saidAt f (keptOf f d l) (placeOf f d l i) ≡ saidAt f l i
+  pub common : (i : ℕ) → i < length l → departmentOf f (commandAt l i) ≡ shared → saidAt f (keptOf f d l) (placeOf f d l i) ≡ saidAt f l i
   -- and behind it, as behind every other, that department's records in the boxes, its stations and its rows are what they were, and the
   -- same boxes are away
   pub same : (i : ℕ) → i ≤ length l → SameFor d (floorAt f l i) (floorAt f (keptOf f d l) (placeOf f d l i))

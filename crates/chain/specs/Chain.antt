@@ -25,8 +25,10 @@ use Rattle.attempts.specs.declared.Answer.{Answer}
 use Rattle.floor.specs.Floors.{rowAt, registerAt}
 use Rattle.floor.specs.Runs.{floorAt, saidAt}
 use Rattle.floor.specs.declared.Floor.{Floor}
-use Rattle.agreement.specs.Words.{commandAt, ServedAt}
-use Rattle.agreement.specs.Demand.{firstFloor}
+use Rattle.floor.specs.Runs.{commandAt}
+use Rattle.agreement.specs.Words.{ServedAt}
+use Rattle.agreement.specs.Demand.{traceOf}
+use Rattle.floor.specs.Floors.{firstFloor}
 
 module _ (f : Floor) (l : List (List ℕ)) where
   -- "a record of 12 bytes: read rank, write rank, value, each big-endian": that of the box b before the step at i, for the department of the
@@ -74,7 +76,7 @@ module _ (f : Floor) (l : List (List ℕ)) where
   -- the accepted serve at i, with the rank of its attempt
   pub record ServedInC (phase : Phase) (a b i : ℕ) : Type 0 where
     pub rank : ℕ
-    pub served : ServedAt f l (rowDepartment a) rank b i
+    pub served : ServedAt (traceOf f l) (rowDepartment a) rank b i
     pub call : InC phase rank a b i
     pub framed : (behind buffer : List ℕ) → 12 ≤ length buffer → FramedInC (requestAt phase rank a i) (answeredAt phase a b (suc i)) a b i behind buffer
     -- where the list's records are of 8 bytes each, the box's record before and after is 12 bytes

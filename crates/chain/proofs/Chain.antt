@@ -47,20 +47,22 @@ use Rattle.floor.specs.Effects.{servedBy}
 use Rattle.floor.proofs.UseLaws.{in-use-most}
 use Rattle.floor.specs.Step.{stepOf}
 use Rattle.floor.specs.Runs.{floorAt, saidAt}
-use Rattle.floor.specs.Claims.{Sound, ServedBy}
+use Rattle.floor.specs.Soundness.{Sound}
+use Rattle.floor.specs.Meanings.{ServedBy}
 use Rattle.floor.specs.declared.Floor.{Floor}
 use Rattle.floor.specs.declared.Stepped.{Stepped}
 use Rattle.floor.proofs.StepCases.{StepCase, turned, served, step-case}
-use Rattle.floor.proofs.Keeps.{new-sound}
+use Rattle.floor.proofs.Outcomes.{served-row, served-box}
+use Rattle.floor.proofs.EmptyFloors.{new-sound}
 use Rattle.floor.proofs.ListLaws.{sound-at}
 use Rattle.base.proofs.Cases.{clash}
-use Rattle.agreement.specs.Words.{commandAt}
-use Rattle.agreement.specs.Demand.{firstFloor}
-use Rattle.agreement.specs.Chain.{bytesAt, answerAt, InC, requestAt, answeredAt, FramedInC, ServedInC, Chain}
-use Rattle.agreement.proofs.Reach.{New, new-floor, lengths-at}
+use Rattle.floor.specs.Runs.{commandAt}
+use Rattle.floor.specs.Floors.{firstFloor}
+use Rattle.chain.specs.Chain.{bytesAt, answerAt, InC, requestAt, answeredAt, FramedInC, ServedInC, Chain}
 use Rattle.agreement.proofs.Positions.{means-at, rank-positive}
 use Rattle.agreement.proofs.Safety.{served-at}
-use Rattle.agreement.proofs.Widths.{FloorFits, fits-at, new-fits}
+use Rattle.floor.proofs.Reached.{New, new-floor, lengths-at}
+use Rattle.chain.proofs.Widths.{FloorFits, fits-at, new-fits}
 
 -- a call on the 12 bytes of a register does what the routine by value does to it
 module _ (x : Register) (r : ℕ) (n : ¬ (r ≡ 0)) where
@@ -178,7 +180,7 @@ module _ (f : Floor) (l : List (List ℕ)) (new : New f) (z : Sound f) (a i : �
 
   -- the box's next record for the attempt's department
   stored : registerAt (floorAt f l (suc i)) (rowDepartment a) b ≡ registerServed (x .phase) w held
-  stored = ap (registerOf (rowDepartment a)) (x .storage) ∙ box-own (rowDepartment a) (boxAt g b) _ (boxAt g b .away)
+  stored = ap (registerOf (rowDepartment a)) (served-box (lengths-at f l new i) x) ∙ box-own (rowDepartment a) (boxAt g b) _ (boxAt g b .away)
 
   -- a read: the box's next register, the answer then on the way, and whether that is a yes
   module _ (q : x .phase ≡ Read) where
@@ -187,12 +189,12 @@ module _ (f : Floor) (l : List (List ℕ)) (new : New f) (z : Sound f) (a i : �
 
     read-answer : answerAt f l a b (suc i) ≡ answerOf (rmwRead held (w .rank))
     read-answer =
-        ap (λ (v : Row). getD (v .answers) b answer0) (x .row) ∙ ap (λ (p : Phase). getD (rowServed p w held b .answers) b answer0) q
+        ap (λ (v : Row). getD (v .answers) b answer0) (served-row (lengths-at f l new i) x) ∙ ap (λ (p : Phase). getD (rowServed p w held b .answers) b answer0) q
         ∙ getD-set-same (w .answers) b _ answer0 (omega (arith, place, lengths-at f l new i .answers a row-place))
 
     read-ok : slotAt (rowAt (floorAt f l (suc i)) a .read) b .ok ≡ isHeld (rmwRead held (w .rank) .answer)
     read-ok =
-        ap (λ (v : Row). slotAt (v .read) b .ok) (x .row) ∙ ap (λ (p : Phase). slotAt (rowServed p w held b .read) b .ok) q
+        ap (λ (v : Row). slotAt (v .read) b .ok) (served-row (lengths-at f l new i) x) ∙ ap (λ (p : Phase). slotAt (rowServed p w held b .read) b .ok) q
         ∙ ap (λ (v : Slot). v .ok) (getD-set-same (w .read .slots) b _ slot0 (omega (arith, place, lengths-at f l new i .slots Read a row-place)))
 
   -- the same of a write
@@ -202,7 +204,7 @@ module _ (f : Floor) (l : List (List ℕ)) (new : New f) (z : Sound f) (a i : �
 
     write-ok : slotAt (rowAt (floorAt f l (suc i)) a .write) b .ok ≡ rmwWrite held (w .rank) (w .written) .taken
     write-ok =
-        ap (λ (v : Row). slotAt (v .write) b .ok) (x .row) ∙ ap (λ (p : Phase). slotAt (rowServed p w held b .write) b .ok) q
+        ap (λ (v : Row). slotAt (v .write) b .ok) (served-row (lengths-at f l new i) x) ∙ ap (λ (p : Phase). slotAt (rowServed p w held b .write) b .ok) q
         ∙ ap (λ (v : Slot). v .ok) (getD-set-same (w .write .slots) b _ slot0 (omega (arith, place, lengths-at f l new i .slots Write a row-place)))
 
   call : (p : Phase) → x .phase ≡ p → InC f l p (w .rank) a b i
@@ -247,12 +249,12 @@ module _ (f : Floor) (l : List (List ℕ)) (new : New f) (z : Sound f) (a i : �
   }
 
 pub chain : Chain
-chain n m t l p a b i c ok =
-    let f = firstFloor n m t in
-    let new = new-floor n m t in
+chain n m ds l p a b i c ok =
+    let f = firstFloor n m ds in
+    let new = new-floor n m ds in
     let e = says-served p a b (subst (λ (d : Command). StepCase (floorAt f l i) d (stepOf (floorAt f l i) (getD l i []))) c (step-case (floorAt f l i) (getD l i []))) ok in
     let x = means-at f l new i (said.Served a) e in
     let q : Serve p a b ≡ Serve (x .phase) a (x .box) = sym c ∙ x .command in
     let eb : x .box ≡ b = cc in
     let ep : x .phase ≡ p = cc in
-    subst (λ (y : ℕ). ServedInC f l p a y i) eb (subst (λ (y : Phase). ServedInC f l y a (x .box) i) ep (served-in-c f l new (new-sound n m t) a i e (new-fits n m t)))
+    subst (λ (y : ℕ). ServedInC f l p a y i) eb (subst (λ (y : Phase). ServedInC f l y a (x .box) i) ep (served-in-c f l new (new-sound n m ds) a i e (new-fits n m ds)))

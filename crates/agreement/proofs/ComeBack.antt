@@ -15,31 +15,35 @@ use Rattle.commands.specs.declared.Command.{Command}
 use Rattle.commands.specs.declared.Command.the-variants.{Serve}
 use Rattle.commands.specs.declared.Outcome.{Outcome}
 use Rattle.commands.specs.declared.Outcome.the-variants as said
+use Rattle.runs.specs.Runs.{stateAt}
 use Rattle.floor.specs.Floors.{boxAt, registerAt}
-use Rattle.floor.specs.Claims.{Sound, Waits, AwayMove, away-kept, away-put, away-brought}
+use Rattle.floor.specs.Soundness.{Sound}
+use Rattle.floor.specs.Moves.{Waits, AwayMove, away-kept, away-put, away-brought}
 use Rattle.floor.specs.Step.{stepOf, applyOf}
 use Rattle.floor.specs.Runs.{floorAt, saidAt}
 use Rattle.floor.specs.declared.Floor.{Floor}
 use Rattle.floor.specs.declared.Stepped.{Stepped}
-use Rattle.floor.proofs.Keeps.{new-sound}
+use Rattle.floor.proofs.EmptyFloors.{new-sound}
 use Rattle.floor.proofs.RefusalLaws.{serve-holds}
 use Rattle.floor.proofs.StepLaws.{apply-accepted}
 use Rattle.floor.proofs.BoxLaws.{record-from}
 use Rattle.floor.proofs.AwayLaws.{row-held, waits-until}
 use Rattle.floor.proofs.ListLaws.{sound-at}
-use Rattle.agreement.specs.Words.{commandAt, Attempt, Named}
-use Rattle.agreement.specs.Demand.{firstFloor}
-use Rattle.agreement.specs.Returns.{AwayFrom, IssuedBefore, Waiting, ReturnsTheorem}
-use Rattle.agreement.proofs.Reach.{New, new-floor, size-at, lengths-at}
+use Rattle.floor.specs.Runs.{commandAt}
+use Rattle.agreement.specs.Words.{Attempt, Named}
+use Rattle.floor.specs.Floors.{firstFloor}
+use Rattle.agreement.specs.ComeBack.{AwayFrom, IssuedBefore, Waiting, ComeBackTheorem}
 use Rattle.agreement.proofs.Positions.{means-at}
-use Rattle.agreement.proofs.Standing.{awayAt, away-step, put-at, back-at}
+use Rattle.agreement.proofs.Boxes.{awayAt, away-step, put-at, back-at}
+use Rattle.agreement.specs.Demand.{traceOf}
+use Rattle.floor.proofs.Reached.{New, new-floor, size-at, lengths-at}
 use Rattle.agreement.proofs.FreeRows.{in-use, Stands, none, waits, answered, heard, standsAt, stands, served-since, served-rests, wasIssued, reads-issued, issued-since}
 
 module _ (f : Floor) (l : List (List ℕ)) (new : New f) (z : Sound f) where
   abbrev here : ℕ → Floor
   here i = floorAt f l i
 
-  module _ (b i j : ℕ) (a : AwayFrom f l b i j) where
+  module _ (b i j : ℕ) (a : AwayFrom (traceOf f l) b i j) where
     -- the box is away before each step behind the one that put it away, up to the one that brings it back
     not-back : {o : Outcome} {x y : Bool} → AwayMove b o x y → ¬ (o ≡ said.Back b) → x ≡ true → y ≡ true
     not-back (away-kept _ _) n e = e
@@ -60,11 +64,11 @@ module _ (f : Floor) (l : List (List ℕ)) (new : New f) (z : Sound f) where
       | inr t ↦ (
           let m = means-at f l new k (said.Served c) q in
           let same : m .box ≡ b = cc (m .command, e) in
-          clash (away-between k t u) (subst (λ (x : ℕ). boxAt (here k) x .away ≡ false) same (m .may .answers)))
+          clash (away-between k t u) (subst (λ (x : ℕ). boxAt (here k) x .away ≡ false) same (m .may .not-away)))
     ]
 
     records : (k : ℕ) → i ≤ k → k ≤ suc j → (d : Department) → registerAt (here k) d b ≡ registerAt (here i) d b
-    unfolding floorAt stepOf
+    unfolding stateAt stepOf
     records zero h u d = let e : 0 ≡ i = omega arith in ap (λ (t : ℕ). registerAt (here t) d b) e
     records (suc k) h u d = elim (eq-or-lt-of-le h) [
       | inl q ↦ ap (λ (t : ℕ). registerAt (here t) d b) (sym q)
@@ -75,12 +79,12 @@ module _ (f : Floor) (l : List (List ℕ)) (new : New f) (z : Sound f) where
     ]
 
     -- a request that waits on the floor, step by step
-    module _ (x : Attempt f l) (p : Phase) where
+    module _ (x : Attempt (traceOf f l)) (p : Phase) where
       abbrev WaitsHere : ℕ → Type 0
-      WaitsHere k = Named f l x k × Waits (here k) p (x .number) b
+      WaitsHere k = Named (traceOf f l) x k × Waits (here k) p (x .number) b
 
       next : (k : ℕ) → i ≤ k → k ≤ j → WaitsHere k → WaitsHere (suc k)
-      unfolding floorAt stepOf
+      unfolding stateAt stepOf
       next k h u w =
           let y = lengths-at f l new k in
           let other = row-held (here k) (commandAt l k) y p (x .number) b (w .1) in (
@@ -102,15 +106,15 @@ module _ (f : Floor) (l : List (List ℕ)) (new : New f) (z : Sound f) where
       ]
 
   -- the words of the list, and the floor
-  issued-then : (x : Attempt f l) (p : Phase) (k t : ℕ) → k ≤ t → IssuedBefore f l x p k → IssuedBefore f l x p t
+  issued-then : (x : Attempt (traceOf f l)) (p : Phase) (k t : ℕ) → k ≤ t → IssuedBefore (traceOf f l) x p k → IssuedBefore (traceOf f l) x p t
   issued-then x Read k t h d = tt
-  issued-then x Write k t h d = record { at = d .at; earlier = omega (arith, d .earlier); holds = d .holds }
+  issued-then x Write k t h d = (d .0, record { at = d .1 .at; earlier = omega (arith, d .1 .earlier); holds = d .1 .holds })
 
-  issued-there : (x : Attempt f l) (p : Phase) (b k : ℕ) → b < f .n → Named f l x k → IssuedBefore f l x p k → wasIssued (standsAt f l new z x p b k) ≡ true
+  issued-there : (x : Attempt (traceOf f l)) (p : Phase) (b k : ℕ) → b < f .n → Named (traceOf f l) x k → IssuedBefore (traceOf f l) x p k → wasIssued (standsAt f l new z x p b k) ≡ true
   issued-there x Read b k h n d = reads-issued f l new z x b k (stands f l new z x Read b h k n)
-  issued-there x Write b k h n d = issued-since f l new z x b h k n d
+  issued-there x Write b k h n d = issued-since f l new z x (d .0) b h k n (d .1)
 
-  waits-there : (x : Attempt f l) (p : Phase) (b k : ℕ) → Waiting f l x p b k → Waits (here k) p (x .number) b
+  waits-there : (x : Attempt (traceOf f l)) (p : Phase) (b k : ℕ) → Waiting (traceOf f l) x p b k → Waits (here k) p (x .number) b
   waits-there x p b k w = record {
     used = in-use f l new z x k (w .named);
     box = omega (arith, w .box, size-at f l k);
@@ -123,7 +127,7 @@ module _ (f : Floor) (l : List (List ℕ)) (new : New f) (z : Sound f) where
       go (answered h s) q = absurd (w .unserved s)
       go (heard h s d) q = absurd (w .unserved s)
 
-  waiting-there : (x : Attempt f l) (p : Phase) (b k : ℕ) → Named f l x k → b < f .n → IssuedBefore f l x p k → Waits (here k) p (x .number) b → Waiting f l x p b k
+  waiting-there : (x : Attempt (traceOf f l)) (p : Phase) (b k : ℕ) → Named (traceOf f l) x k → b < f .n → IssuedBefore (traceOf f l) x p k → Waits (here k) p (x .number) b → Waiting (traceOf f l) x p b k
   waiting-there x p b k n h d w = record {
     named = n;
     box = h;
@@ -131,11 +135,11 @@ module _ (f : Floor) (l : List (List ℕ)) (new : New f) (z : Sound f) where
     unserved = λ s. clash (w .waits) (served-rests (standsAt f l new z x p b k) (served-since f l new z x p b h k n s));
   }
 
-  module _ (b i j k : ℕ) (a : AwayFrom f l b i j) (h : i ≤ k) (u : k ≤ j) (x : Attempt f l) (p : Phase) (w : Waiting f l x p b k) where
-    back : Named f l x (suc j) × Waits (here (suc j)) p (x .number) b
+  module _ (b i j k : ℕ) (a : AwayFrom (traceOf f l) b i j) (h : i ≤ k) (u : k ≤ j) (x : Attempt (traceOf f l)) (p : Phase) (w : Waiting (traceOf f l) x p b k) where
+    back : Named (traceOf f l) x (suc j) × Waits (here (suc j)) p (x .number) b
     back = until-back b i j a x p k (suc j) h (omega arith) (omega arith) (w .named, waits-there x p b k w)
 
-    still : Waiting f l x p b (suc j)
+    still : Waiting (traceOf f l) x p b (suc j)
     still = waiting-there x p b (suc j) (back .0) (w .box) (issued-then x p k (suc j) (omega arith) (w .issued)) (back .1)
 
     accepted : commandAt l (suc j) ≡ Serve p (x .number) b → saidAt f l (suc j) ≡ said.Served (x .number)
@@ -145,13 +149,13 @@ module _ (f : Floor) (l : List (List ℕ)) (new : New f) (z : Sound f) where
         let can = serve-holds g p (x .number) b (record {
           used = back .1 .used;
           box = back .1 .box;
-          answers = back-at f l new b j (a .back) .1;
+          not-away = back-at f l new b j (a .back) .1;
           waits = back .1 .waits;
         }) in
         ap (λ (c : Command). applyOf g c .outcome) e ∙ ap (λ (s : Stepped). s .outcome) (apply-accepted g (Serve p (x .number) b) (sound-at f l z (suc j)) can)
 
-pub returns : ReturnsTheorem
-returns n m t l = let f = firstFloor n m t in let new = new-floor n m t in let z = new-sound n m t in record {
+pub come-back : ComeBackTheorem
+come-back n m ds l = let f = firstFloor n m ds in let new = new-floor n m ds in let z = new-sound n m ds in record {
   records = λ b i j k a. records f l new z b i j a k;
   waits = still f l new z;
   served = accepted f l new z;

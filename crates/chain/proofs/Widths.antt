@@ -36,14 +36,15 @@ use Rattle.attempts.specs.declared.Answer.{Answer}
 use Rattle.attempts.specs.declared.rows.Best.{Best}
 use Rattle.attempts.specs.declared.Row.{Row}
 use Rattle.attempts.proofs.Answers.{best-found}
+use Rattle.runs.specs.Runs.{stateAt}
 use Rattle.floor.specs.Floors.{boxAt, rowAt, registerAt, emptyFloor, newFloorOf}
 use Rattle.floor.specs.Effects.{heardRow, servedBy}
-use Rattle.floor.proofs.Keeps.{new-floor-by}
+use Rattle.floor.proofs.EmptyFloors.{new-floor-by}
 use Rattle.floor.specs.Step.{stepOf}
 use Rattle.floor.specs.Runs.{floorAt}
-use Rattle.floor.specs.Claims.{RowMove, row-kept, row-begins, row-served, row-heard, row-issues, BoxMove, box-kept, box-serves, box-stops, box-returns}
+use Rattle.floor.specs.Moves.{BoxMove, box-kept, box-serves, box-stops, box-returns}
 use Rattle.floor.specs.declared.Floor.{Floor}
-use Rattle.floor.proofs.Moves.{apply-box, apply-row}
+use Rattle.floor.proofs.Moves.{apply-box, RowMove, row-kept, row-begins, row-served, row-heard, row-issues, apply-row}
 
 pub record RowFits (w : Row) : Type 0 where
   pub rank : w .rank < 2 ^ 32
@@ -124,7 +125,7 @@ record-bytes (r ∷ l) h zero = h .0 .bytes
 record-bytes (r ∷ l) h (suc i) = record-bytes l (h .1) i
 
 pub fits-at : (f : Floor) (l : List (List ℕ)) → FloorFits f → AllRecords l → (i : ℕ) → FloorFits (floorAt f l i)
-unfolding floorAt
+unfolding stateAt
 fits-at f l h y zero = h
 fits-at f l h y (suc i) = step-fits (floorAt f l i) (getD l i []) (record-bytes l y i) (fits-at f l h y i)
 

@@ -9,64 +9,44 @@ use Rattle.base.specs.Quorum.{count, indicator}
 use Rattle.base.proofs.Cases.{clash, by-cases}
 use Rattle.base.proofs.Choices.{on-true, on-false}
 use Rattle.base.proofs.QuorumLaws.{count-low}
-use Rattle.register.specs.Register.{isOf}
 use Rattle.register.specs.declared.Department.{Department}
 use Rattle.register.specs.declared.StorageBox.{StorageBox}
-use Rattle.register.proofs.DepartmentLaws.{is-same}
+use Rattle.register.proofs.DepartmentLaws.{is-same, same-is}
 use Rattle.commands.specs.Commands.{commandOf}
 use Rattle.commands.specs.Outcomes.{isRefused}
 use Rattle.commands.specs.declared.Command.{Command}
-use Rattle.commands.specs.declared.Command.the-variants.{Begin, Serve, Deliver, Stop, Leave, Return, Malformed}
 use Rattle.commands.specs.declared.Outcome.{Outcome}
-use Rattle.attempts.specs.Rows.{rowDepartment}
+use Rattle.runs.specs.Runs.{stateAt}
 use Rattle.floor.specs.Floors.{boxAt, departmentAt}
-use Rattle.floor.specs.Departments.{belongs, Owned}
+use Rattle.places.specs.Places.{stationIn}
+use Rattle.floor.specs.Departments.{Belonging, only, shared, belonging, departmentOf, isOnly, Owned}
 use Rattle.floor.specs.Step.{applyOf, stepOf}
 use Rattle.floor.specs.Runs.{floorAt, saidAt}
-use Rattle.floor.specs.Claims.{Sound, Lengths, SameSizes, BoxMove, box-kept, box-serves, box-stops, box-returns}
+use Rattle.floor.specs.Soundness.{Sound, Lengths, SameSizes}
+use Rattle.floor.specs.Moves.{BoxMove, box-kept, box-serves, box-stops, box-returns}
 use Rattle.floor.specs.declared.Floor.{Floor}
-use Rattle.floor.proofs.Keeps.{new-sound, step-sizes}
+use Rattle.floor.proofs.EmptyFloors.{new-sound}
+use Rattle.floor.proofs.Keeps.{step-sizes}
 use Rattle.floor.proofs.Moves.{apply-box}
 use Rattle.floor.proofs.Numbered.{accepted-refusal}
 use Rattle.floor.proofs.DepartmentLaws.{apply-untouched}
 use Rattle.floor.proofs.ListLaws.{sound-at}
-use Rattle.agreement.specs.Words.{commandAt}
-use Rattle.agreement.specs.Demand.{firstFloor}
-use Rattle.agreement.specs.Deletion.{keeps, keptOf, placeOf, DeletionTheorem}
-use Rattle.agreement.proofs.Reach.{New, new-floor, lengths-at, owned-at}
-use Rattle.agreement.proofs.Standing.{department-at}
-use Rattle.agreement.proofs.Alike.{Alike, KeptFor, AlikeStep, step-alike}
+use Rattle.floor.specs.Runs.{commandAt}
+use Rattle.floor.specs.Floors.{firstFloor}
+use Rattle.deletion.specs.Deletion.{isKept, keeps, keptOf, placeOf, DeletionTheorem}
+use Rattle.floor.proofs.Reached.{New, new-floor, lengths-at, owned-at, department-at}
+use Rattle.deletion.proofs.Alike.{Kept, Alike, AlikeStep, step-alike}
 
--- a command that puts a box away or brings it back
-abbrev moves : Command → Bool
-moves (Begin s round v) = false
-moves (Serve p a b) = false
-moves (Deliver p a b) = false
-moves (Stop b) = true
-moves (Leave s) = false
-moves (Return b) = true
-moves Malformed = false
+-- a step that is kept belongs to the department or is shared; any other is of the other department
+kept-for : (d : Department) (x : Belonging) → isKept d x ≡ true → Kept d x
+kept-for d (only e) h = sym (is-same d e h)
+kept-for d shared h = tt
 
--- a step that is kept belongs to the department or moves a box; any other changes nothing of the department
+not-kept : (d : Department) (x : Belonging) → isKept d x ≡ false → isOnly d x ≡ false
+not-kept d (only e) h = h
+not-kept d shared h = clash refl h
+
 module _ (f : Floor) (d : Department) where
-  kept-for : (c : Command) → keeps f d c ≡ true → KeptFor f d c
-  kept-for (Begin s round v) e = sym (is-same d (departmentAt f s) e)
-  kept-for (Serve p a b) e = sym (is-same d (rowDepartment a) e)
-  kept-for (Deliver p a b) e = sym (is-same d (rowDepartment a) e)
-  kept-for (Stop b) e = tt
-  kept-for (Leave s) e = sym (is-same d (departmentAt f s) e)
-  kept-for (Return b) e = tt
-  kept-for Malformed e = tt
-
-  not-kept : (c : Command) → keeps f d c ≡ false → (belongs f d c ≡ false) × (moves c ≡ false)
-  not-kept (Begin s round v) e = (e, refl)
-  not-kept (Serve p a b) e = (e, refl)
-  not-kept (Deliver p a b) e = (e, refl)
-  not-kept (Stop b) e = clash refl e
-  not-kept (Leave s) e = (e, refl)
-  not-kept (Return b) e = clash refl e
-  not-kept Malformed e = (refl, refl)
-
   -- a kept step of a list has its place in the list of them
   abbrev Keeps : List (List ℕ) → ℕ → Bool
   Keeps l k = keeps f d (commandAt l k)
@@ -105,26 +85,20 @@ module _ (f : Floor) (d : Department) where
 
 -- the same, where the stations have the same departments
 keeps-same : (f g : Floor) (d : Department) → ((s : ℕ) → departmentAt g s ≡ departmentAt f s) → (c : Command) → keeps g d c ≡ keeps f d c
-keeps-same f g d h (Begin s round v) = ap (isOf d) (h s)
-keeps-same f g d h (Serve p a b) = refl
-keeps-same f g d h (Deliver p a b) = refl
-keeps-same f g d h (Stop b) = refl
-keeps-same f g d h (Leave s) = ap (isOf d) (h s)
-keeps-same f g d h (Return b) = refl
-keeps-same f g d h Malformed = refl
+keeps-same f g d h c = ap (λ (e : Department). isKept d (belonging e c)) (h (stationIn 0 c))
 
--- no other step moves a box
-still-answers : {f : Floor} {c : Command} {j : ℕ} {o : Outcome} {x : StorageBox} → BoxMove f c j o x → moves c ≡ false → x .away ≡ boxAt f j .away
-still-answers box-kept n = refl
-still-answers (box-serves q u t) n = refl
-still-answers (box-stops q t) n = clash (ap moves q) n
-still-answers (box-returns q t) n = clash (ap moves q) n
+-- a step that is not kept moves no box
+still-answers : {f : Floor} {c : Command} {j : ℕ} {o : Outcome} {x : StorageBox} (d : Department) → BoxMove f c j o x → keeps f d c ≡ false → x .away ≡ boxAt f j .away
+still-answers d box-kept n = refl
+still-answers d (box-serves q u t) n = refl
+still-answers {f} d (box-stops q t) n = clash (ap (keeps f d) q) n
+still-answers {f} d (box-returns q t) n = clash (ap (keeps f d) q) n
 
 -- a step of the other department on one of two floors that are alike
-other-alike : {d : Department} {f g : Floor} (c : Command) → Alike d f g → Owned f → Lengths f → Lengths (applyOf f c .floor) → belongs f d c ≡ false → moves c ≡ false
+other-alike : {d : Department} {f g : Floor} (c : Command) → Alike d f g → Owned f → Lengths f → Lengths (applyOf f c .floor) → keeps f d c ≡ false
     → SameSizes f (applyOf f c .floor) → Alike d (applyOf f c .floor) g
-other-alike {d} {f} {g} c k o y y' e n z =
-    let u = apply-untouched f c d o e in
+other-alike {d} {f} {g} c k o y y' n z =
+    let u = apply-untouched f c d o (not-kept d (departmentOf f c) n) in
     record {
       boxes = k .boxes ∙ sym (z .boxes);
       stations = k .stations ∙ sym (z .stations);
@@ -135,7 +109,7 @@ other-alike {d} {f} {g} c k o y y' e n z =
         stations = λ s q. let q' = sym (u .departments s) ∙ q in k .same .stations s q' ∙ sym (u .stations s q');
         departments = λ s. k .same .departments s ∙ sym (u .departments s);
       };
-      away = λ b. k .away b ∙ sym (still-answers (apply-box f c b) n);
+      away = λ b. k .away b ∙ sym (still-answers d (apply-box f c b) n);
       box-length = k .box-length ∙ y .boxes ∙ sym (y' .boxes);
       station-length = k .station-length ∙ y .stations ∙ sym (y' .stations);
       row-length = k .row-length ∙ y .rows ∙ sym (y' .rows);
@@ -167,7 +141,7 @@ module _ (f : Floor) (d : Department) (l : List (List ℕ)) (new : New f) (z : S
 
   -- what is kept, by the departments of the floor before the step
   keeps-at : (i : ℕ) → keeps (here i) d (commandAt l i) ≡ keeps f d (commandAt l i)
-  keeps-at i = keeps-same f (here i) d (λ s. department-at f l new s i) (commandAt l i)
+  keeps-at i = keeps-same f (here i) d (λ s. department-at f l s i) (commandAt l i)
 
   -- a kept step on both floors
   both : (i : ℕ) → i < length l → keeps f d (commandAt l i) ≡ true → Alike d (here i) (there i) → AlikeStep d (stepOf (here i) (getD l i [])) (stepOf (there i) (getD kept (place i) []))
@@ -175,11 +149,11 @@ module _ (f : Floor) (d : Department) (l : List (List ℕ)) (new : New f) (z : S
   both i h e k =
       let c = commandAt l i in
       let q : commandAt kept (place i) ≡ c = ap commandOf (at-place f d l i h e) in
-      rw q (step-alike k (owned-at f l new i) (sound-at f l z i) (sound-at f kept z (place i)) c (kept-for (here i) d c (keeps-at i ∙ e))
+      rw q (step-alike k (owned-at f l new i) (sound-at f l z i) (sound-at f kept z (place i)) c (kept-for d (departmentOf (here i) c) (keeps-at i ∙ e))
       (accepted-refusal (here i) c (sound-at f l z i) (accepted i h)))
 
   alike : (i : ℕ) → i ≤ length l → Alike d (here i) (there i)
-  unfolding floorAt count stepOf
+  unfolding stateAt count stepOf
   alike zero h = same-floor
   alike (suc i) h =
       let k = alike i (omega arith) in
@@ -189,19 +163,21 @@ module _ (f : Floor) (d : Department) (l : List (List ℕ)) (new : New f) (z : S
       subst (λ (j : ℕ). Alike d (here (suc i)) (floorAt f kept j)) (sym n) (both i (omega arith) e k .floor))
       (λ e.
       let n : place (suc i) ≡ place i = omega (arith, ap indicator e) in
-      let o = not-kept (here i) d (commandAt l i) (keeps-at i ∙ e) in
       subst (λ (j : ℕ). Alike d (here (suc i)) (floorAt f kept j)) (sym n)
-      (other-alike (commandAt l i) k (owned-at f l new i) (lengths-at f l new i) (lengths-at f l new (suc i)) (o .0) (o .1) (step-sizes (here i) (getD l i []))))
+      (other-alike (commandAt l i) k (owned-at f l new i) (lengths-at f l new i) (lengths-at f l new (suc i)) (keeps-at i ∙ e) (step-sizes (here i) (getD l i []))))
 
 pub deletion : DeletionTheorem
-deletion n m t l accepted d =
-    let f = firstFloor n m t in
-    let new = new-floor n m t in
-    let z = new-sound n m t in
+deletion n m ds l accepted d =
+    let f = firstFloor n m ds in
+    let new = new-floor n m ds in
+    let z = new-sound n m ds in
+    let says : (i : ℕ) → i < length l → keeps f d (commandAt l i) ≡ true → saidAt f (keptOf f d l) (placeOf f d l i) ≡ saidAt f l i =
+    λ i h e. both f d l new z accepted i h e (alike f d l new z accepted i (omega arith)) .outcome in
     record {
       size = kept-size f d l;
       asked = at-place f d l;
-      said = λ i h e. both f d l new z accepted i h e (alike f d l new z accepted i (omega arith)) .outcome;
+      own = λ i h e. says i h (ap (isKept d) e ∙ same-is d d refl);
+      common = λ i h e. says i h (ap (isKept d) e);
       same = λ i h. alike f d l new z accepted i h .same;
       away = λ i h. alike f d l new z accepted i h .away;
     }
