@@ -1,7 +1,8 @@
 #!/usr/bin/env python3
 """The table of docs/COSTS.md, "Lines and check times", and what the must-fail edits and the faults may cost.
 
-    costs.py LOG    writes the table anew: lines and edits as the tree has them, seconds as the output of a gate, LOG, has them
+    costs.py LOG    writes the table anew: lines and edits as the tree has them, seconds as the output of a gate, LOG, has them, put into those
+                    of the machine of the table before by the crates whose lines it has already
 
 `mistakes` says where the table is not the tree's and where the tree is over the budget of CONTRIBUTING.md, "What a wish may add to the
 gate". The seconds of an edit are those of a check of its crate.
@@ -57,11 +58,15 @@ def mistakes():
 def write(log):
     page = PAGE.read_text()
     check = {name: int(s) for name, s in re.findall(r"^rt: (\w+) proved \((\d+) s\)", log, re.M)}
+    before = {name: tuple(map(int, numbers)) for name, *numbers in ROW.findall(TABLE.search(page)[1])}
+    same = [name for name, numbers in counted() if before.get(name, ())[:3] == numbers[:3]]
+    scale = sum(before[name][4] for name in same) / sum(check[name] for name in same)
+    print(f"the table's machine takes {scale:.2f} of the log's seconds, by {', '.join(same)}")
     edits = {}
     for name, label, s in re.findall(r"^rt: must-fail (\w+)/(\w+): refused.*?(\d+) s\)$", log, re.M):
         if (TOP / "crates" / name / "must-fail" / f"{label}.edit").exists():
             edits[name] = edits.get(name, 0) + int(s)
-    rows = [(f"`{name}`", *numbers, check[name], edits.get(name, 0)) for name, numbers in counted()]
+    rows = [(f"`{name}`", *numbers, round(scale * check[name]), round(scale * edits.get(name, 0))) for name, numbers in counted()]
     rows.append(("all", *map(sum, zip(*(row[1:] for row in rows)))))
     text = "".join("| " + " | ".join(map(str, row)) + " |\n" for row in rows)
     PAGE.write_text(TABLE.sub(lambda _: HEAD + text, page))

@@ -91,7 +91,7 @@ module _ (t : Trace) where
     pub phase : Phase
     pub serves : ServesAt attempt phase b i
 
-  -- the delivery at i, of an answer of the attempt of that number, says o
+  -- the delivery at i, of an answer to a read or a write of the attempt of that number, says o
   pub record SaysAt (number : ℕ) (o : Outcome) (i : ℕ) : Type 0 where
     pub phase : Phase
     pub box : ℕ

@@ -1,4 +1,4 @@
-// Internal to `floor`: the parts of a floor that one step reads and stores, and the step on these alone, by value. The loop of `floor`
+// Internal to `steps`: the parts of a floor that one step reads and stores, and the step on these alone, by value. The loop of `steps`
 // is the one place that reads them out of a floor and stores them into it, so that no whole floor is moved for a step.
 ghost use mathlib.Core.Path.{_≡_};
 use attempts::Row;
