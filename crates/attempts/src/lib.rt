@@ -13,7 +13,7 @@ pub use rows::{
 pub use states::{active, busy, gone, in_phase, with_state};
 
 // What a station does, with the attempt that it is in.
-#[derive(Drop)]
+#[derive(Clone, Copy)]
 pub enum State {
     Idle,
     Reading(u8),
@@ -23,14 +23,14 @@ pub enum State {
 }
 
 // Whether a station decided, and which revision. Revision 0, "do not cut", is one like any other.
-#[derive(Drop)]
+#[derive(Clone, Copy)]
 pub enum Decision {
     None,
     Revision(Suit),
 }
 
 // A station: the paper's client, of one department. Its last round and what it decided survive its going.
-#[derive(Drop)]
+#[derive(Clone, Copy)]
 pub struct Station {
     pub department: Department,
     pub state: State,
@@ -39,14 +39,14 @@ pub struct Station {
 }
 
 // What a box answered to a read: its write rank and value, 0 and 0 where the read was outranked.
-#[derive(Drop)]
+#[derive(Clone, Copy)]
 pub struct Answer {
     pub rank: u32,
     pub value: Suit,
 }
 
 // The row of an attempt (the paper's invocation of decide with one rank): its two phases, and what its reads were answered.
-#[derive(Drop)]
+#[derive(Clone, Copy)]
 pub struct Row {
     pub station: u8,
     pub rank: u32,
@@ -58,7 +58,7 @@ pub struct Row {
 }
 
 // The row and the register after the box's routine ran.
-#[derive(Drop)]
+#[derive(Clone, Copy)]
 pub struct Served {
     pub row: Row,
     pub register: Register,

@@ -10,7 +10,7 @@ use requests::{Phase, Requests};
 use suits::Suit;
 
 // The best of the answers looked at so far, if there was one.
-#[derive(Drop)]
+#[derive(Clone, Copy)]
 pub struct Best {
     pub found: bool,
     pub rank: u32,

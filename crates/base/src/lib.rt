@@ -1,5 +1,7 @@
 // What several crates compute: big-endian numbers, bytes at places of a slice, the size of a quorum, and the refusals 3 and 22;
 // and what their writers answer.
+#![tactic(auto)]
+
 ghost use Rattle.std.specs.Prelude.{◌≡◌, ◌+◌, leb, length, get_or};
 ghost use Rattle.base.specs.Choice.{if◌then◌else◌};
 ghost use Rattle.base.specs.Numbers.{sizes_right, quorum};
@@ -7,7 +9,7 @@ ghost use Rattle.base.specs.Departments.{not_departments, departments_wrong};
 ghost use Rattle.base.specs.Bytes.{word16, word32, bytes16, bytes32, word_at, with_word, bytes_put};
 
 // What came of writing: the size of what was written, and the refusal. One of them is 0.
-#[derive(Drop)]
+#[derive(Clone, Copy)]
 pub struct Written {
     pub size: usize,
     pub refusal: u8,

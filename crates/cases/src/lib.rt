@@ -2,6 +2,8 @@
 //
 // A line of a program's input that begins with a small letter is a case: a word that says how it is played, what the case is in words,
 // a bar, and the notation of its bytes. Any other line is printed as it stands; among them is the legend of the program's words.
+#![tactic(auto)]
+
 ghost use Rattle.std.specs.Prelude.{◌≡◌, length};
 
 mod buffers;

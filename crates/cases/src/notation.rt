@@ -13,7 +13,7 @@ use crate::text;
 
 // How far a notation was read: how many bytes it has given, where the present record starts, a digit that waits for the second
 // of its byte (16: none), and whether L is to be set.
-#[derive(Drop)]
+#[derive(Clone, Copy)]
 struct Place {
     end: usize,
     record: usize,

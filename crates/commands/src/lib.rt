@@ -12,7 +12,7 @@ pub use outcomes::{ends, number, refused, value};
 
 // A step as its record's fields say it: station, round and revision; phase, attempt and box; box; station; box. `Malformed` is any
 // record that refusal 7 turns back.
-#[derive(Drop)]
+#[derive(Clone, Copy)]
 pub enum Command {
     Begin(u8, u16, Suit),
     Serve(Phase, u8, u8),
@@ -24,7 +24,7 @@ pub enum Command {
 }
 
 // What came of a step; `Refused` has the number under "Turned back".
-#[derive(Drop)]
+#[derive(Clone, Copy)]
 pub enum Outcome {
     Begun(u8),
     Served(u8),

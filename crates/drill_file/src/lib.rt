@@ -1,5 +1,7 @@
 // The drill file: its header, its label, its departments and its records (document 01, "The drill file" and the refusals 1 to 5; document
 // 02, wish 6), and the writer.
+#![tactic(auto)]
+
 ghost use Rattle.std.specs.Prelude.{◌≡◌, ◌-◌, ◌≤◌, length};
 ghost use Rattle.base.specs.Part.{IsPart};
 ghost use Rattle.drill_file.specs.DrillFile.{label_end, departments_due, records_start, after_header, outside, any_byte, wrong_size, unknown_version, wrong_version, wrong_floor, wrong_byte, wrong_length, wrong_label, wrong_departments, wrong_run, wrong_records, file_refusal, header_of, header_refusal, header_values, file_values, if_accepted, label_of, label_start, departments_of, departments_start};
@@ -9,7 +11,7 @@ mod writer;
 pub use writer::{drill_write, write_file};
 
 // What the header says: the refusal, or n, m, where the records start and how many there are.
-#[derive(Drop)]
+#[derive(Clone, Copy)]
 pub enum Header {
     Refused(u8),
     Accepted {

@@ -15,7 +15,7 @@ pub use serve::box_serve;
 pub use wire::{frame_read, frame_write};
 
 // What comes of a request: the refusal, or the register after the routine and the answer.
-#[derive(Drop)]
+#[derive(Clone, Copy)]
 pub enum Serving {
     TurnedAway(u8),
     Served(Register, Message),

@@ -5,20 +5,20 @@ use commands::Outcome;
 use register::StorageBox;
 
 // What a department has begun: how many of its 64 rows are in use, and its highest rank, 0 where it has begun none.
-#[derive(Drop)]
+#[derive(Clone, Copy)]
 pub struct Share {
     pub used: u8,
     pub highest: u32,
 }
 
-#[derive(Drop)]
+#[derive(Clone, Copy)]
 pub struct Shares {
     pub sails: Share,
     pub canvas: Share,
 }
 
 // The floor: n boxes, m stations, what each department has begun, and the rows of attempts, 0 to 63 of sails and 64 to 127 of canvas.
-#[derive(Drop)]
+#[derive(Clone, Copy)]
 pub struct Floor {
     pub n: u8,
     pub m: u8,
@@ -29,21 +29,21 @@ pub struct Floor {
 }
 
 // A floor and what came of the step that led to it.
-#[derive(Drop)]
+#[derive(Clone, Copy)]
 pub struct Stepped {
     pub floor: Floor,
     pub outcome: Outcome,
 }
 
 // A new floor, or refusal 3 or 22 with the new floor of one box and one station, sails.
-#[derive(Drop)]
+#[derive(Clone, Copy)]
 pub struct NewFloor {
     pub floor: Floor,
     pub refusal: u8,
 }
 
 // The floor that the accepted steps of a run left, how many they are, and what the last step said, the refused one included.
-#[derive(Drop)]
+#[derive(Clone, Copy)]
 pub struct Ran {
     pub floor: Floor,
     pub accepted: usize,
@@ -52,7 +52,7 @@ pub struct Ran {
 
 // The floor that the accepted steps of a list left, how many they are, and the refusal, 0 if none. Steps are numbered from 0, so the
 // step that was turned back has the number `accepted`.
-#[derive(Drop)]
+#[derive(Clone, Copy)]
 pub struct Played {
     pub floor: Floor,
     pub accepted: usize,

@@ -1,4 +1,6 @@
 // The messages between stations and boxes, each in one frame (document 02, wish 3): the message, its reader and its writer.
+#![tactic(auto)]
+
 ghost use Rattle.std.specs.Prelude.{◌≡◌};
 ghost use Rattle.frames.specs.Messages.{kind_of, first_of, second_of, wrong_message, fields_in};
 
@@ -12,7 +14,7 @@ pub use writer::write_frame;
 
 // A message: the requests of the two phases, with rank, and with rank and revision; the answers to a read, with write rank and value, or
 // that it is outranked (the nack of a phase 1); the answers to a write.
-#[derive(Drop)]
+#[derive(Clone, Copy)]
 pub enum Message {
     ReadRequest(u32),
     WriteRequest(u32, u32),
@@ -23,7 +25,7 @@ pub enum Message {
 }
 
 // What was read: the refusal, or the message.
-#[derive(Drop)]
+#[derive(Clone, Copy)]
 pub enum Parsed {
     Refused(u8),
     Accepted(Message),

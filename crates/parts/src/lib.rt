@@ -20,7 +20,7 @@ pub use kinds::change;
 // The parts of a floor that one step looks at, and all that it can change: of a department's things those of its own department. `first`
 // is the department's first row, `used` how many of its rows are in use, `highest` its highest rank begun, and `register` the box's
 // record for it. `next` is the row that a begin takes, 128 or above where there is none; no step but a begin looks at it.
-#[derive(Drop)]
+#[derive(Clone, Copy)]
 pub struct Parts {
     pub n: u8,
     pub m: u8,
@@ -35,7 +35,7 @@ pub struct Parts {
 }
 
 // The parts after a step, and what came of it.
-#[derive(Drop)]
+#[derive(Clone, Copy)]
 pub struct Changed {
     pub parts: Parts,
     pub outcome: Outcome,

@@ -7,7 +7,7 @@ ghost use Rattle.places.specs.Search.{lower_in};
 use commands::Command;
 
 // The free row of the smallest rank found so far, and that rank. Where none was found the row is the number of all rows.
-#[derive(Drop)]
+#[derive(Clone, Copy)]
 pub struct Lowest {
     pub row: u8,
     pub rank: u32,

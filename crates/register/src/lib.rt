@@ -1,19 +1,21 @@
 // The ranked register of one box, by value: Figure 3 of the paper, as document 01's section "The box routine" and wish 2 of document 02
 // read it.
+#![tactic(auto)]
+
 ghost use Rattle.std.specs.Prelude.{◌≡◌};
 ghost use Rattle.register.specs.Register.{register_of, box_with, outranks, is_held, rank_in, value_in, takes, rmw_read, rmw_write};
 
 use suits::Suit;
 
 // A department of the loft (wish 6 of document 02): each has a record of its own in every box.
-#[derive(Drop)]
+#[derive(Clone, Copy)]
 pub enum Department {
     Sails,
     Canvas,
 }
 
 // What a box keeps: Figure 3's x, with rR (read), wR (write) and val (value). All are 0 at first.
-#[derive(Drop)]
+#[derive(Clone, Copy)]
 pub struct Register {
     pub read: u32,
     pub write: u32,
@@ -21,7 +23,7 @@ pub struct Register {
 }
 
 // A box: a ranked register for each department, and whether it is away (wish 8 of document 02), which both share.
-#[derive(Drop)]
+#[derive(Clone, Copy)]
 pub struct StorageBox {
     pub sails: Register,
     pub canvas: Register,
@@ -29,21 +31,21 @@ pub struct StorageBox {
 }
 
 // What a read answers: the write rank and the value that are held, or that a higher rank was served (the nack of a phase 1).
-#[derive(Drop)]
+#[derive(Clone, Copy)]
 pub enum ReadAnswer {
     Held(u32, Suit),
     Outranked,
 }
 
 // A read: the register after it, and its answer.
-#[derive(Drop)]
+#[derive(Clone, Copy)]
 pub struct ReadDone {
     pub register: Register,
     pub answer: ReadAnswer,
 }
 
 // A write: the register after it, and its answer, whether it was taken.
-#[derive(Drop)]
+#[derive(Clone, Copy)]
 pub struct WriteDone {
     pub register: Register,
     pub taken: bool,

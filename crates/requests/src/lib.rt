@@ -1,5 +1,7 @@
 // One phase of an attempt at every box: where its request stands at each, whether the answer is a yes, and whose answers were
 // received. Nothing here knows a rank or a revision: those that answers carry stand beside a phase, in the row.
+#![tactic(auto)]
+
 ghost use Rattle.std.specs.Prelude.{◌≡◌, ◌≤◌, ltb};
 ghost use Rattle.base.specs.Choice.{if◌then◌else◌};
 ghost use Rattle.requests.specs.Requests.{none_issued, standing_of, is_waiting, is_on_the_way, issued_to, served_at, received_from, heard_from, at_quorum, still_yes, all_yes, read_verdict, write_verdict, verdict_of};
@@ -8,14 +10,14 @@ mod masks;
 mod slots;
 
 // A phase of an attempt.
-#[derive(Drop)]
+#[derive(Clone, Copy)]
 pub enum Phase {
     Read,
     Write,
 }
 
 // How far a request has come, up to the reception of its answer, which the mask records.
-#[derive(Drop)]
+#[derive(Clone, Copy)]
 pub enum Stage {
     Unissued,
     Waiting,
@@ -23,7 +25,7 @@ pub enum Stage {
 }
 
 // A request at one box; `ok` is its answer's yes or no: a read's is a yes unless it is outranked, a write's if it is taken.
-#[derive(Drop)]
+#[derive(Clone, Copy)]
 pub struct Slot {
     pub stage: Stage,
     pub ok: bool,
@@ -31,14 +33,14 @@ pub struct Slot {
 
 // The requests of one phase at every box. The mask `heard` is the set of boxes whose answers were received; nothing else records
 // a reception, so that nothing here contradicts it.
-#[derive(Drop)]
+#[derive(Clone, Copy)]
 pub struct Requests {
     pub slots: [Slot; 9],
     pub heard: u16,
 }
 
 // What the answers received come to: the phase goes on, or it has ended with a yes of each, or with a no.
-#[derive(Drop)]
+#[derive(Clone, Copy)]
 pub enum Verdict {
     Open,
     Yes,

@@ -1,12 +1,14 @@
 // Runs of steps one after the other, whatever is stepped: where a run ends, what turns it back before its first step, and the records that
 // it is handed. What a step says is told by two tests, whether it was refused and whether it ended an attempt.
+#![tactic(auto)]
+
 ghost use Rattle.std.specs.Prelude.{◌≡◌, true, leb, get_or, replicate};
 ghost use Rattle.base.specs.Choice.{if◌then◌else◌};
 ghost use Rattle.base.specs.Records.{records_in};
 ghost use Rattle.runs.specs.Runs.{stops_by, refusal_by};
 
 // Where a run of steps ends before its last: behind a step that was refused, or also behind one that ended an attempt.
-#[derive(Drop)]
+#[derive(Clone, Copy)]
 pub enum Until {
     Refusal,
     End,

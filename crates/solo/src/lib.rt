@@ -22,7 +22,7 @@ use requests::Phase;
 use suits::Suit;
 
 // A floor, how many steps led to it, and what the last step said, a refused one included.
-#[derive(Drop)]
+#[derive(Clone, Copy)]
 pub struct Solo {
     pub floor: Floor,
     pub steps: u8,

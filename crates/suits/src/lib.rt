@@ -1,9 +1,11 @@
 // A suit, the value of consensus: what is decided as one. A box, a row and a station keep whole suits, of one revision.
+#![tactic(auto)]
+
 ghost use Rattle.std.specs.Prelude.{◌≡◌};
 ghost use Rattle.suits.specs.Suits.{suit0, single};
 
 // Numbers and no array: an enum may hold it.
-#[derive(Drop)]
+#[derive(Clone, Copy)]
 pub struct Suit {
     pub r0: u32,
 }

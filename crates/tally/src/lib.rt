@@ -6,7 +6,7 @@ ghost use Rattle.tally.specs.Tally.{one_more, tally_of};
 use register::{Department, StorageBox};
 
 // How many boxes are not away, and the highest write rank of a department among those; 0 and 0 where there are none.
-#[derive(Drop)]
+#[derive(Clone, Copy)]
 pub struct Tally {
     pub count: usize,
     pub highest: u32,

@@ -7,6 +7,6 @@ pub byte_at_spec : {M : Type 1} → statement M
 byte_at_spec =
     tie.close
     (tie.spec
-    (λ c. past_end c.before.args.s.now _ c.if1.true)
+    (λ c. past_end c.before.args.s.now _ c.if-s-at.true)
     (λ c. search rules)
     (λ c. search rules))

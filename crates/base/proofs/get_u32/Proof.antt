@@ -12,9 +12,9 @@ unfolding word_at
 get_u32_spec =
     tie.close
     (tie.spec
-    (λ c. on_false _ (none_in_short 4 _ _ c.if1.true) refl)
+    (λ c. on_false _ (none_in_short 4 _ _ c.if-s-lt4.true) refl)
     (λ c. search rules)
-    (λ c. on_false _ (none_past 4 _ _ c.if2.true) refl)
+    (λ c. on_false _ (none_past 4 _ _ c.if-s-at.true) refl)
     (λ c. search rules)
     (λ c. search rules)
     (λ c. search rules)
@@ -25,4 +25,4 @@ get_u32_spec =
     (λ c κs. search rules)
     (λ c.
     let d = c.before.before.before.before.before in
-    on_true _ (le-leb _ _ (room 4 _ _ d.before.if1.false d.if2.false)) c.be32.ensures))
+    on_true _ (le-leb _ _ (room 4 _ _ d.before.if-s-lt4.false d.if-s-at.false)) c.be32.ensures))

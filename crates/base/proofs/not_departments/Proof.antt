@@ -8,10 +8,10 @@ use Rattle.base.proofs.DepartmentLaws.{department_wrong, department_right, depar
 use Rattle.base.proofs.not_departments.Statement.{statement}
 use Rattle.base.proofs.not_departments.Tie as tie
 
-abbrev invariant_loop : tie.invariant_loop
+abbrev invariant_loop : tie.invariant-loop-i
 invariant_loop s i₀ i = (i ≤ length s) × (not_departments (drop i s) ≡ not_departments s)
 
-abbrev decreases_loop : tie.decreases_loop
+abbrev decreases_loop : tie.decreases-loop-i
 decreases_loop s i₀ i = length s - i
 
 pub not_departments_spec : {M : Type 1} → statement M
@@ -22,8 +22,8 @@ not_departments_spec =
     decreases_loop
     (λ c. (omega arith, refl))
     (λ c. search rules)
-    (λ c. department_wrong _ _ c.before.before.before.loop.invariant.1 c.before.before.loop-test.true c.if1.true)
+    (λ c. department_wrong _ _ c.before.before.before.loop-i.invariant.1 c.before.before.loop-i-test.true c.if-s-i-gt1.true)
     (λ c. search rules)
     (λ c. search rules)
-    (λ c. (omega arith, department_right _ _ c.before.before.before.loop.invariant.1 c.before.before.loop-test.true c.if1.false))
-    (λ c. departments_right _ _ c.before.loop.invariant.1 c.loop-test.false))
+    (λ c. (omega arith, department_right _ _ c.before.before.before.loop-i.invariant.1 c.before.before.loop-i-test.true c.if-s-i-gt1.false))
+    (λ c. departments_right _ _ c.before.loop-i.invariant.1 c.loop-i-test.false))

@@ -14,10 +14,10 @@ use Rattle.base.proofs.Room.{none_in_short, none_past, room}
 use Rattle.base.proofs.put_bytes.Statement.{statement}
 use Rattle.base.proofs.put_bytes.Tie as tie
 
-abbrev invariant_loop : tie.invariant_loop
+abbrev invariant_loop : tie.invariant-loop-i
 invariant_loop s₀ at bytes i₀ s i = (i ≤ length bytes) × (s ≡ paste s₀ at bytes i) × (length s ≡ length s₀)
 
-abbrev decreases_loop : tie.decreases_loop
+abbrev decreases_loop : tie.decreases-loop-i
 decreases_loop s₀ at bytes i₀ s i = length bytes - i
 
 -- a turn puts one byte more
@@ -33,22 +33,22 @@ pasted s₀ s bytes at i r h k e =
     let whole : take i bytes ≡ bytes = take_all i bytes (omega arith) in
     on_true _ (le-leb _ _ r) (e ∙ rw (whole, all))
 
-fits : (c : tie.In-loop invariant_loop decreases_loop) → c.before.before.before.before.args.at + c.before.loop.i < length c.before.before.before.before.args.s.now
+fits : (c : tie.In-loop-i invariant_loop decreases_loop) → c.before.before.before.before.args.at + c.before.loop-i.i < length c.before.before.before.before.args.s.now
 fits c =
-    let h = room _ _ _ c.before.before.before.if1.false c.before.before.if2.false in
-    omega (arith, c.loop-test.true)
+    let h = room _ _ _ c.before.before.before.if-s-bytes.false c.before.before.if-s-bytes-2.false in
+    omega (arith, c.loop-i-test.true)
 
-again : tie.Need-loop-preserved invariant_loop decreases_loop
+again : tie.Need-loop-i-preserved invariant_loop decreases_loop
 again c =
     let turn = c.before in
-    let i = turn.before.loop.invariant in
-    (omega (arith, turn.loop-test.true), stored _ _ _ _ _ (fits turn) turn.loop-test.true i.1, simp length-set i.2)
+    let i = turn.before.loop-i.invariant in
+    (omega (arith, turn.loop-i-test.true), stored _ _ _ _ _ (fits turn) turn.loop-i-test.true i.1, simp length-set i.2)
 
-ends : tie.Need-returns-3 invariant_loop decreases_loop
+ends : tie.Need-returns invariant_loop decreases_loop
 ends c =
-    let i = c.before.loop.invariant in
+    let i = c.before.loop-i.invariant in
     let two = c.before.before in
-    pasted _ _ _ _ _ (room _ _ _ two.before.if1.false two.if2.false) c.loop-test.false i.0 i.1
+    pasted _ _ _ _ _ (room _ _ _ two.before.if-s-bytes.false two.if-s-bytes-2.false) c.loop-i-test.false i.0 i.1
 
 pub put_bytes_spec : {M : Type 1} → statement M
 unfolding bytes_put
@@ -57,15 +57,15 @@ put_bytes_spec =
     (tie.spec
     invariant_loop
     decreases_loop
-    (λ c. on_false _ (none_in_short _ _ _ c.if1.true) refl)
+    (λ c. on_false _ (none_in_short _ _ _ c.if-s-bytes.true) refl)
     (λ c. search rules)
-    (λ c. on_false _ (none_past _ _ _ c.if2.true) refl)
+    (λ c. on_false _ (none_past _ _ _ c.if-s-bytes-2.true) refl)
     (λ c. let a = c.before.before.args in (omega arith, paste-zero a.s.now a.at a.bytes.now, refl))
     (λ c. search rules)
     (λ c. omega (arith, fits c.before))
-    (λ c. rw c.before.before.loop.invariant.2 (fits c.before))
+    (λ c. rw c.before.before.loop-i.invariant.2 (fits c.before))
     (λ c. search rules)
     (λ c. search rules)
     again
-    (λ c. c.before.loop.invariant.2)
+    (λ c. c.before.loop-i.invariant.2)
     ends)

@@ -17,9 +17,9 @@ unfolding with_word
 put_u32_spec =
     tie.close
     (tie.spec
-    (λ c. on_false _ (none_in_short 4 _ _ c.if1.true) refl)
+    (λ c. on_false _ (none_in_short 4 _ _ c.if-s-lt4.true) refl)
     (λ c. search rules)
-    (λ c. on_false _ (none_past 4 _ _ c.if2.true) refl)
+    (λ c. on_false _ (none_past 4 _ _ c.if-s-at.true) refl)
     (λ c κs. search rules)
     (λ c. search rules)
     (λ c. search rules)
@@ -35,5 +35,5 @@ put_u32_spec =
     (λ c. search rules)
     (λ c.
     let s = c.before.before.before.before.args in
-    let h = room 4 _ _ c.before.before.if1.false c.before.if2.false in
-    on_true _ (le-leb _ _ h) (rw c.split32.ensures (simp towards_suc (simp towards_suc at (sets-eq (bytes32 s.x) s.s.now s.at h))))))
+    let h = room 4 _ _ c.before.before.if-s-lt4.false c.before.if-s-at.false in
+    on_true _ (le-leb _ _ h) (rw c.split32-bytes.ensures (simp towards_suc (simp towards_suc at (sets-eq (bytes32 s.x) s.s.now s.at h))))))

@@ -9,10 +9,10 @@ use Rattle.drill_file.proofs.FileLaws.{byte_wrong, byte_right, bytes_right}
 use Rattle.drill_file.proofs.any_outside.Statement.{statement}
 use Rattle.drill_file.proofs.any_outside.Tie as tie
 
-abbrev invariant_loop : tie.invariant_loop
+abbrev invariant_loop : tie.invariant-loop-i
 invariant_loop s low high i₀ i = (i ≤ length s) × (any_byte (outside low high) (drop i s) ≡ any_byte (outside low high) s)
 
-abbrev decreases_loop : tie.decreases_loop
+abbrev decreases_loop : tie.decreases-loop-i
 decreases_loop s low high i₀ i = length s - i
 
 pub any_outside_spec : {M : Type 1} → statement M
@@ -24,8 +24,8 @@ any_outside_spec =
     (λ c. (omega arith, refl))
     (λ c. search rules)
     (λ c κs. search rules)
-    (λ c. byte_wrong _ _ _ c.before.before.before.before.loop.invariant.1 c.before.before.before.loop-test.true (search tests))
+    (λ c. byte_wrong _ _ _ c.before.before.before.before.loop-i.invariant.1 c.before.before.before.loop-i-test.true (search tests))
     (λ c. search rules)
     (λ c. search rules)
-    (λ c. (omega arith, byte_right _ _ _ c.before.before.before.before.loop.invariant.1 c.before.before.before.loop-test.true (search tests)))
-    (λ c. bytes_right _ _ _ c.before.loop.invariant.1 c.loop-test.false))
+    (λ c. (omega arith, byte_right _ _ _ c.before.before.before.before.loop-i.invariant.1 c.before.before.before.loop-i-test.true (search tests)))
+    (λ c. bytes_right _ _ _ c.before.loop-i.invariant.1 c.loop-i-test.false))

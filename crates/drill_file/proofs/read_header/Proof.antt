@@ -5,16 +5,16 @@ use Rattle.drill_file.proofs.FileLaws.{header_refused, header_accepted, header_s
 use Rattle.drill_file.proofs.read_header.Statement.{statement}
 use Rattle.drill_file.proofs.read_header.Tie as tie
 
-refused : tie.Need-returns
-refused c = header_said _ _ (header_refused _ _ c.before.file_refusal.ensures c.if1.true)
+refused : tie.Need-returns-then-refusal-ne0
+refused c = header_said _ _ (header_refused _ _ c.before.file_refusal-refusal.ensures c.if-refusal-ne0.true)
 
-accepted : tie.Need-returns-2
+accepted : tie.Need-returns
 accepted c =
     let tested = c.before.before.before.before in
     header_said _ _
-    (header_accepted _ _ tested.before.file_refusal.ensures tested.if1.false _ _ _ _
+    (header_accepted _ _ tested.before.file_refusal-refusal.ensures tested.if-refusal-ne0.false _ _ _ _
     c.before.before.before.byte_at.ensures
-    c.before.before.byte_at2.ensures
+    c.before.before.byte_at-2.ensures
     c.before.records_start.ensures
     (ap (λ (k : ℕ). k / 8) c.after_header.ensures))
 

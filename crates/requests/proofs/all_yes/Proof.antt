@@ -15,9 +15,9 @@ all_yes_spec =
     (λ c κs. search rules)
     (λ c.
     let s = c.before.before.before.before in
-    heard_past s.args.q _ s.well-formed.0 s.args.n (omega arith) (λ e. c.if2.true (c.before.before.count_below.ensures ∙ e ∙ sym c.before.count_below2.ensures)))
+    heard_past s.args.q _ s.well-formed.0 s.args.n (omega arith) (λ e. c.if-count_below.true (c.before.before.count_below.ensures ∙ e ∙ sym c.before.count_below-2.ensures)))
     (λ c κs. search rules)
     (λ c.
     let s = c.before.before.before.before.before in
-    c.yes_below2.ensures
-    ∙ unheard_past s.args.q _ s.well-formed.0 s.args.n (omega arith) (sym c.before.before.before.count_below.ensures ∙ c.before.if2.false ∙ c.before.before.count_below2.ensures)))
+    c.yes_below-2.ensures
+    ∙ unheard_past s.args.q _ s.well-formed.0 s.args.n (omega arith) (sym c.before.before.before.count_below.ensures ∙ c.before.if-count_below.false ∙ c.before.before.count_below-2.ensures)))

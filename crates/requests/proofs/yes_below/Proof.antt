@@ -7,10 +7,10 @@ use Rattle.requests.specs.Requests.{all_yes}
 use Rattle.requests.proofs.yes_below.Statement.{statement}
 use Rattle.requests.proofs.yes_below.Tie as tie
 
-abbrev invariant_loop : tie.invariant_loop
+abbrev invariant_loop : tie.invariant-loop-k
 invariant_loop n w ok₀ k₀ ok k = (k ≤ n) × (ok ≡ all_yes w k)
 
-abbrev decreases_loop : tie.decreases_loop
+abbrev decreases_loop : tie.decreases-loop-k
 decreases_loop n w ok₀ k₀ ok k = n - k
 
 pub yes_below_spec : {M : Type 1} → statement M
@@ -29,4 +29,4 @@ yes_below_spec =
     (λ c. omega arith)
     (λ c. omega arith)
     (λ c. (omega arith, rw add-one (cc)))
-    (λ c. let e : c.before.loop.k ≡ c.before.before.args.n = omega arith in cc))
+    (λ c. let e : c.before.loop-k.k ≡ c.before.before.args.n = omega arith in cc))

@@ -11,7 +11,7 @@ unfolding record_at
 record_at_spec =
     tie.close
     (tie.spec
-    (λ c. let a = c.before.args in sym (record_none a.s.now a.k _ (omega (arith, c.if1.true))))
+    (λ c. let a = c.before.args in sym (record_none a.s.now a.k _ (omega (arith, c.if-s-k.true))))
     (λ c. search rules)
     (λ c. search rules)
     (λ c. search rules)
@@ -31,4 +31,4 @@ record_at_spec =
     (λ c.
     let x = c.before.before.before.before.before.before.before.before in
     let a = x.before.args in
-    sym (record_there a.s.now a.k _ (omega (arith, x.if1.false)))))
+    sym (record_there a.s.now a.k _ (omega (arith, x.if-s-k.false)))))

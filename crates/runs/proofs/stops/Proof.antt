@@ -8,8 +8,8 @@ pub stops_spec : {M : Type 1} → statement M
 stops_spec =
     tie.close
     (tie.spec
-    (λ c. sym (refused_stops _ _ _ c.if1.true))
+    (λ c. sym (refused_stops _ _ _ c.if-refused.true))
     (λ c. search rules)
     (λ c. search rules)
-    (λ c. sym (goes_on_refusal _ _ _ c.before.before.if1.false c.enum_told.given.1))
-    (λ c. sym (goes_on_end _ _ _ c.before.before.if1.false c.enum-told2.given.1)))
+    (λ c. sym (goes_on_refusal _ _ _ c.before.before.if-refused.false c.enum_told-1.given.1))
+    (λ c. sym (goes_on_end _ _ _ c.before.before.if-refused.false c.enum-told2.given.1)))

@@ -11,10 +11,10 @@ use Rattle.drill_file.proofs.writer.any_kind_6.Statement.{statement}
 use Rattle.drill_file.proofs.writer.any_kind_6.Tie as tie
 
 -- the records from the k-th on tell
-abbrev invariant_loop : tie.invariant_loop
+abbrev invariant_loop : tie.invariant-loop-k
 invariant_loop records count k₀ k = has_kind 6 (records_from (length records / 8 - k) records (8 * k)) ≡ has_kind 6 (records_in records)
 
-abbrev decreases_loop : tie.decreases_loop
+abbrev decreases_loop : tie.decreases-loop-k
 decreases_loop records count k₀ k = count - k
 
 pub any_kind_6_spec : {M : Type 1} → statement M
@@ -25,9 +25,9 @@ any_kind_6_spec =
     decreases_loop
     (λ c. kind_starts 6 c.args.records.now)
     (λ c. search rules)
-    (λ c. omega (arith, c.before.loop-test.true))
-    (λ c. kind_found 6 c.before.before.before.before.args.records.now c.before.before.before.loop.k c.before.before.before.loop.invariant c.before.before.loop-test.true (search tests))
+    (λ c. omega (arith, c.before.loop-k-test.true))
+    (λ c. kind_found 6 c.before.before.before.before.args.records.now c.before.before.before.loop-k.k c.before.before.before.loop-k.invariant c.before.before.loop-k-test.true (search tests))
     (λ c. search rules)
-    (λ c. omega (arith, c.before.before.loop-test.true))
-    (λ c. kind_passed 6 c.before.before.before.before.args.records.now c.before.before.before.loop.k c.before.before.before.loop.invariant c.before.before.loop-test.true (search tests))
-    (λ c. kind_none 6 c.before.before.args.records.now c.before.loop.k c.before.loop.invariant c.loop-test.false))
+    (λ c. omega (arith, c.before.before.loop-k-test.true))
+    (λ c. kind_passed 6 c.before.before.before.before.args.records.now c.before.before.before.loop-k.k c.before.before.before.loop-k.invariant c.before.before.loop-k-test.true (search tests))
+    (λ c. kind_none 6 c.before.before.args.records.now c.before.loop-k.k c.before.loop-k.invariant c.loop-k-test.false))

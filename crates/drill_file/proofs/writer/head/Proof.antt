@@ -12,4 +12,4 @@ head_spec =
     (λ c. search rules)
     (λ c. search rules)
     (λ c. search rules)
-    (λ c. rw c.split16.ensures))
+    (λ c. rw c.split16-l.ensures))

@@ -18,7 +18,7 @@ size c = front c + c.args.bytes
 short : (c : tie.Start) → c.args.room < size c → true ≡ ltb c.args.room (size c)
 short c h = sym (lt-ltb c.args.room (size c) h)
 
-left : tie.Need-returns-4
+left : tie.Need-returns
 left c =
     let start = c.before.before.before in
     let a = start.args in

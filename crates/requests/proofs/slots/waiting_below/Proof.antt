@@ -8,10 +8,10 @@ use Rattle.requests.proofs.RequestLaws.{waiting_most}
 use Rattle.requests.proofs.slots.waiting_below.Statement.{statement}
 use Rattle.requests.proofs.slots.waiting_below.Tie as tie
 
-abbrev invariant_loop : tie.invariant_loop
+abbrev invariant_loop : tie.invariant-loop-k
 invariant_loop n end l₀ k₀ l k = (l ≡ waiting_below k) × (k ≤ end)
 
-abbrev decreases_loop : tie.decreases_loop
+abbrev decreases_loop : tie.decreases-loop-k
 decreases_loop n end l₀ k₀ l k = end - k
 
 pub waiting_below_spec : {M : Type 1} → statement M
@@ -29,4 +29,4 @@ waiting_below_spec =
     (λ c. omega arith)
     (λ c. omega arith)
     (λ c. (rw add-one (cc), omega arith))
-    (λ c. let e : c.before.loop.k ≡ min c.before.before.before.args.n 9 = omega arith in cc (waiting_most c.before.before.before.args.n)))
+    (λ c. let e : c.before.loop-k.k ≡ min c.before.before.before.args.n 9 = omega arith in cc (waiting_most c.before.before.before.args.n)))
