@@ -62,7 +62,7 @@ module _ (l : List Answer) (m : Requests) (nine : length l ≡ 9) where
 
 module _ (w : Row) (vs : List Val) (g : Is the_row w vs) where
   nine_answers : length w.answers ≡ 9
-  nine_answers = simp length-map at g.1.1.1.1.1.1.1.0.1.0.1
+  nine_answers = g.1.1.1.1.1.1.1.0.1.0.1
 
   pub none_answered : (b : ℕ) (x : Answer) → 9 ≤ b → set w.answers b x ≡ w.answers
   none_answered b x h = set_out w.answers b x (omega (arith, nine_answers))

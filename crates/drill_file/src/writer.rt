@@ -139,8 +139,7 @@ pub fn write_file(
 }
 
 // The same for C: returns the refusal and stores the size.
-#[unsafe(no_mangle)]
-pub extern "C" fn drill_write(
+pub fn drill_write(
     buffer: &mut [u8],
     version: u8,
     n: u8,

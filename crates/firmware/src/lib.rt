@@ -1,6 +1,8 @@
 // The box routine as box firmware in C calls it: document 01's section "The box routine" and wish 2 of document 02, on a record of 12
 // bytes. The routine itself is crate `register`'s, which the floor runs too; here are the bytes, the answers and the refusals. Beside it the
 // frames of crate `frames` for C, and the call that serves a request (wish 3).
+#![tactic(auto)]
+
 ghost use Rattle.std.specs.Prelude.{◌≡◌, length};
 ghost use Rattle.firmware.specs.Firmware.{decode, encode, reply_of, read_answer, record_after_read, reply_after_read, write_answer, record_after_write};
 
@@ -55,8 +57,7 @@ fn store_reply(s: &mut [u8], rank: u32, value: u32)
 
 // A read: the record's read rank becomes the rank, and the reply is filled with write rank and value. 100 where its read rank or its
 // write rank is above the rank: then the record stays as it is, and the reply is zeroed.
-#[unsafe(no_mangle)]
-pub extern "C" fn box_read(bytes: &mut [u8], rank: u32, reply: &mut [u8]) -> u32
+pub fn box_read(bytes: &mut [u8], rank: u32, reply: &mut [u8]) -> u32
     ensures answer { result ≡ read_answer bytes.old rank reply.old }
     ensures kept { bytes.new ≡ record_after_read bytes.old rank reply.old }
     ensures replied { reply.new ≡ reply_after_read bytes.old rank reply.old }
@@ -84,8 +85,7 @@ pub extern "C" fn box_read(bytes: &mut [u8], rank: u32, reply: &mut [u8]) -> u32
 }
 
 // A write: 0 where it is taken, and 100 where it is not; then the record stays as it is.
-#[unsafe(no_mangle)]
-pub extern "C" fn box_write(bytes: &mut [u8], rank: u32, revision: u32) -> u32
+pub fn box_write(bytes: &mut [u8], rank: u32, revision: u32) -> u32
     ensures answer { result ≡ write_answer bytes.old rank revision }
     ensures kept { bytes.new ≡ record_after_write bytes.old rank revision }
 {

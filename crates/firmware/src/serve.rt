@@ -66,13 +66,7 @@ fn serve_parsed(bytes: &[u8], p: Parsed) -> Serving
 
 // Serves the request frame at the start of the input on the record `bytes`, writes the answer's frame into the buffer and stores its size.
 // Nothing is stored in the record before the answer is written.
-#[unsafe(no_mangle)]
-pub extern "C" fn box_serve(
-    bytes: &mut [u8],
-    input: &[u8],
-    buffer: &mut [u8],
-    size: &mut usize,
-) -> u32
+pub fn box_serve(bytes: &mut [u8], input: &[u8], buffer: &mut [u8], size: &mut usize) -> u32
     ensures answer { result ≡ serve_answer bytes.old input.now (length buffer.old) }
     ensures kept { bytes.new ≡ record_after_serve bytes.old input.now (length buffer.old) }
     ensures buffer { buffer.new ≡ buffer_after_serve bytes.old input.now buffer.old }

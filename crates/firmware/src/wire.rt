@@ -7,8 +7,7 @@ use frames::Parsed;
 
 // The frame at the start of the input: stores the kind and its fields, where the part behind the frame starts and how many bytes it has.
 // All are 0 where the input is refused.
-#[unsafe(no_mangle)]
-pub extern "C" fn frame_read(
+pub fn frame_read(
     input: &[u8],
     kind: &mut u32,
     first: &mut u32,
@@ -40,14 +39,7 @@ pub extern "C" fn frame_read(
 }
 
 // Writes the frame of the message of that kind and fields into the buffer, and stores its size.
-#[unsafe(no_mangle)]
-pub extern "C" fn frame_write(
-    buffer: &mut [u8],
-    kind: u32,
-    first: u32,
-    second: u32,
-    size: &mut usize,
-) -> u32
+pub fn frame_write(buffer: &mut [u8], kind: u32, first: u32, second: u32, size: &mut usize) -> u32
     ensures answer { result ≡ refusal_for (length buffer.old) (formed kind first second) }
     ensures size { size.new ≡ size_for (length buffer.old) (formed kind first second) }
     ensures buffer { buffer.new ≡ buffer_for buffer.old (formed kind first second) }

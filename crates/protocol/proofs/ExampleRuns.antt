@@ -56,7 +56,7 @@ module _ {E : Type 0} where
   place : {e : E} {l : List E} (i : ℕ) → Place i e l → Memᴰ e l
   place {l = []} i p = absurd p
   place {l = d ∷ l} zero p = Memᴰ.head p
-  place {l = d ∷ l} (suc i) p = Memᴰ.tail (place i p)
+  place {l = d ∷ l} (suc i) p = Memᴰ.tail (place {l = l} i p)
 
 module _ {A N : Type 0} where
   -- no write of rank r was issued

@@ -24,7 +24,7 @@ use Rattle.requests.specs.contracts.Requests.{the_row}
 
 module _ (q : Requests) (vs : List Val) (g : Is the_row q vs) where
   pub nine_slots : length q.slots ≡ 9
-  nine_slots = simp length-map at g.1.1.0.1.0.1
+  nine_slots = g.1.1.0.1.0.1
 
   pub no_slot : (b : ℕ) → 9 ≤ b → slot0 ≡ slot_at q b
   no_slot b h = sym (get_or-eq_default q.slots slot0 {n = b} (omega (arith, nine_slots)))

@@ -1,4 +1,6 @@
 // The program suite_frames: reads and writes frames and says what came of each case.
+#![tactic(auto)]
+
 mod frame;
 
 // The longest case is one byte longer than a drill file may be.

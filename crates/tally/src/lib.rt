@@ -1,5 +1,7 @@
 // The tally of box records, of one department: how many boxes are not away, and the highest write rank of the department's records
 // among those. Wish 6 of document 02: "Each box keeps one record a department, and the tally is told which."
+#![tactic(auto)]
+
 ghost use Rattle.std.specs.Prelude.{◌≡◌, ◌+◌, ◌≤◌, ◌<◌, ◌^◌, min, take};
 ghost use Rattle.tally.specs.Tally.{one_more, tally_of};
 

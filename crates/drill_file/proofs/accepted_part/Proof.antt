@@ -9,22 +9,22 @@ use Rattle.drill_file.proofs.accepted_part.Tie as tie
 
 refused : tie.Need-returns-then-file_refusal-ne0
 refused c =
-    let none = none_accepted _ _ c.before.before.file_refusal.ensures c.before.if-file_refusal-ne0.true in
-    let from = c.before.before.before.before.args.from in
-    let to = c.before.before.before.before.args.to in
+    let none = none_accepted _ _ c.file_refusal.ensures c.if-file_refusal-ne0.true in
+    let from = c.args.from in
+    let to = c.args.to in
     rw (← (none from), ← (none (to - from))) (record { block = refl; offset = omega arith; within = omega arith; bytes = refl })
 
 -- an accepted file has the part
 lies : (c : tie.Else-file_refusal-ne0)
-    → let a = c.before.before.before.args in
+    → let a = c.args in
     (a.from ≤ a.to) × (a.to ≤ length a.file.now)
-lies c = c.before.before.before.requires (sym c.before.file_refusal.ensures ∙ c.if-file_refusal-ne0.false)
+lies c = c.requires (sym c.file_refusal.ensures ∙ c.if-file_refusal-ne0.false)
 
 accepted : tie.Need-returns
 accepted c =
-    let some = some_accepted _ _ c.before.before.file_refusal.ensures c.before.if-file_refusal-ne0.false in
-    let from = c.before.before.before.before.args.from in
-    let to = c.before.before.before.before.args.to in
+    let some = some_accepted _ _ c.file_refusal.ensures c.if-file_refusal-ne0.false in
+    let from = c.args.from in
+    let to = c.args.to in
     rw (← (some from), ← (some (to - from))) (record { block = refl; offset = omega arith; within = omega (arith, lies c.before); bytes = refl })
 
 pub accepted_part_spec : {M : Type 1} → statement M

@@ -9,5 +9,5 @@ departments_spec =
     (tie.spec
     (λ c κs. search rules)
     (λ c κs. search rules)
-    (λ c κs. departments_within _ _ _ c.before.label_end-first.ensures c.records_start-records.ensures)
-    (λ c. departments_lie _ _ _ _ c.before.before.label_end-first.ensures c.before.records_start-records.ensures c.accepted_part.ensures))
+    (λ c κs. departments_within _ _ _ c.label_end-first.ensures c.records_start-records.ensures)
+    (λ c. departments_lie _ _ _ _ c.label_end-first.ensures c.records_start-records.ensures c.accepted_part.ensures))

@@ -9,4 +9,4 @@ label_spec =
     (tie.spec
     (λ c κs. search rules)
     (λ c κs. label_within _ _ c.label_end.ensures)
-    (λ c. label_lies _ _ _ c.before.label_end.ensures c.accepted_part.ensures))
+    (λ c. label_lies _ _ _ c.label_end.ensures c.accepted_part.ensures))

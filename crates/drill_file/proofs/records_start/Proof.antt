@@ -5,10 +5,10 @@ use Rattle.drill_file.proofs.records_start.Statement.{statement}
 use Rattle.drill_file.proofs.records_start.Tie as tie
 
 -- the label length is a byte, and so is m
-fits : tie.Need-overflow-add-result
+fits : tie.Need-overflow_add-result
 fits c =
-    let known = c.before.before.before.before.shared-slice-known in
-    omega (arith, known.given 5, due_most c.before.before.byte_at.result c.before.byte_at-2.result)
+    let known = c.shared_slice_known-1 in
+    omega (arith, known.given 5, due_most c.byte_at.result c.byte_at-2.result)
 
 pub records_start_spec : {M : Type 1} → statement M
 records_start_spec =
@@ -19,4 +19,4 @@ records_start_spec =
     (λ c κs. search rules)
     (λ c κs. search rules)
     fits
-    (λ c. rw (c.departments_due.ensures, c.before.byte_at-2.ensures, c.before.before.byte_at.ensures, c.before.before.before.label_end.ensures)))
+    (λ c. rw (c.departments_due.ensures, c.byte_at-2.ensures, c.byte_at.ensures, c.label_end.ensures)))

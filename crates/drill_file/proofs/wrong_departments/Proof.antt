@@ -10,11 +10,11 @@ wrong_departments_spec =
     (tie.spec
     (λ c κs. search rules)
     (λ c κs. search rules)
-    (λ c. departments_past _ _ c.before.before.label_end-first.ensures _ c.before.records_start-records.ensures c.if-file-records.true)
+    (λ c. departments_past _ _ c.label_end-first.ensures _ c.records_start-records.ensures c.if-file-records.true)
     (λ c. search rules)
     (λ c. search rules)
     (λ c. search rules)
     (λ c κs. search rules)
     (λ c.
-    let read = c.before.before.before in
-    c.not_departments.ensures ∙ departments_bytes _ _ read.before.label_end-first.ensures _ read.records_start-records.ensures c.before.before.if-file-records.false))
+    let read = c in
+    c.not_departments.ensures ∙ departments_bytes _ _ read.label_end-first.ensures _ read.records_start-records.ensures c.if-file-records.false))

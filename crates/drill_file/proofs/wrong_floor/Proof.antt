@@ -11,4 +11,4 @@ wrong_floor_spec =
     (λ c κs. search rules)
     (λ c κs. search rules)
     (λ c κs. search rules)
-    (λ c. rw (c.sizes_right.ensures, c.before.byte_at-2.ensures, c.before.before.byte_at.ensures)))
+    (λ c. rw (c.sizes_right.ensures, c.byte_at-2.ensures, c.byte_at.ensures)))

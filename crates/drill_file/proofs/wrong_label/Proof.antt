@@ -7,8 +7,8 @@ use Rattle.drill_file.proofs.wrong_label.Statement.{statement}
 use Rattle.drill_file.proofs.wrong_label.Tie as tie
 
 -- what the test of the label length said
-looked : (c : tie.After-wrong-length) → wrong_length (label_length c.before.before.before.before.args.file.now) ≡ c.wrong_length.result
-looked c = sym (c.wrong_length.ensures ∙ ap wrong_length (c.before.wide.ensures ∙ c.before.before.byte_at.ensures))
+looked : (c : tie.After-wrong_length) → wrong_length (label_length c.args.file.now) ≡ c.wrong_length.result
+looked c = sym (c.wrong_length.ensures ∙ ap wrong_length (c.wide.ensures ∙ c.byte_at.ensures))
 
 pub wrong_label_spec : {M : Type 1} → statement M
 wrong_label_spec =
@@ -19,9 +19,9 @@ wrong_label_spec =
     (λ c κs. search rules)
     (λ c. length_wrong _ (looked c.before ∙ search tests))
     (λ c κs. search rules)
-    (λ c. label_past _ (looked c.before.before.before ∙ search tests) _ c.before.label_end-end.ensures c.if-file-end.true)
+    (λ c. label_past _ (looked c.before.before.before ∙ search tests) _ c.label_end-end.ensures c.if-file-end.true)
     (λ c. search rules)
     (λ c. search rules)
     (λ c. search rules)
     (λ c κs. search rules)
-    (λ c. c.wrong_bytes.ensures ∙ label_bytes _ (looked c.before.before.before.before.before ∙ search tests) _ c.before.before.before.label_end-end.ensures c.before.before.if-file-end.false))
+    (λ c. c.wrong_bytes.ensures ∙ label_bytes _ (looked c.before.before.before.before.before ∙ search tests) _ c.label_end-end.ensures c.if-file-end.false))

@@ -10,4 +10,4 @@ wrong_records_spec =
     (tie.spec
     (λ c κs. search rules)
     (λ c κs. search rules)
-    (λ c. rw (c.wrong_run.ensures, c.before.after_header.ensures)))
+    (λ c. rw (c.wrong_run.ensures, c.after_header.ensures)))

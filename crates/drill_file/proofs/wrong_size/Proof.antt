@@ -18,4 +18,4 @@ wrong_size_spec =
     (λ c κs. search rules)
     (λ c. search rules)
     (λ c. search rules)
-    (λ c. on_false _ (search tests) (on_false _ (search tests) (rw (c.be16.ensures, c.before.byte_at-2.ensures, c.before.before.byte_at.ensures)))))
+    (λ c. on_false _ (search tests) (on_false _ (search tests) (rw (c.be16.ensures, c.byte_at-2.ensures, c.byte_at.ensures)))))

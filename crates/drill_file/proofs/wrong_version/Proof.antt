@@ -10,4 +10,4 @@ wrong_version_spec =
     (tie.spec
     (λ c κs. search rules)
     (λ c κs. search rules)
-    (λ c. rw (c.unknown_version.ensures, c.before.byte_at.ensures)))
+    (λ c. rw (c.unknown_version.ensures, c.byte_at.ensures)))

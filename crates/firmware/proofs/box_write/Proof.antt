@@ -4,27 +4,27 @@ use Rattle.firmware.proofs.CallLaws.{write_16, write_17, write_kept, write_ends_
 use Rattle.firmware.proofs.box_write.Statement.{statement}
 use Rattle.firmware.proofs.box_write.Tie as tie
 
-ends_16 : tie.Need-returns
-ends_16 c = let e = write_16 _ _ _ c.if1.true in (e, write_kept _ _ _ 16 refl e)
+ends_16 : tie.Need-returns-then-bytes-ne12
+ends_16 c = let e = write_16 _ _ _ c.if-bytes-ne12.true in (e, write_kept _ _ _ 16 refl e)
 
-ends_17 : tie.Need-returns-2
+ends_17 : tie.Need-returns-then-rank-eq0
 ends_17 c =
-    let e = write_17 _ _ _ c.before.if1.false c.if2.true in
+    let e = write_17 _ _ _ c.if-bytes-ne12.false c.if-rank-eq0.true in
     (e, write_kept _ _ _ 17 refl e)
 
-ends_0 : tie.Need-returns-3
+ends_0 : tie.Need-returns-then-done
 ends_0 c =
-    let done = c.before.before.before.before.before.before in
-    let past = done.before.before.before in
-    write_ends_0 _ _ _ past.before.if1.false past.if2.false _ _ done.before.load.ensures
-    done.rmw_write.ensures c.before.before.before.before.if3.true _ c.before.before.store.ensures
+    let done = c in
+    let past = done in
+    write_ends_0 _ _ _ past.if-bytes-ne12.false past.if-rank-eq0.false _ _ done.load.ensures
+    done.rmw_write-done.ensures c.if-done.true _ c.store.ensures
 
-ends_100 : tie.Need-returns-4
+ends_100 : tie.Need-returns
 ends_100 c =
-    let done = c.before.before in
-    let past = done.before.before.before in
-    write_ends_100 _ _ _ past.before.if1.false past.if2.false _ _ done.before.load.ensures
-    done.rmw_write.ensures c.if3.false
+    let done = c in
+    let past = done in
+    write_ends_100 _ _ _ past.if-bytes-ne12.false past.if-rank-eq0.false _ _ done.load.ensures
+    done.rmw_write-done.ensures c.if-done.false
 
 pub box_write_spec : {M : Type 1} → statement M
 box_write_spec =

@@ -10,4 +10,4 @@ load_spec =
     (λ c κs. search rules)
     (λ c κs. search rules)
     (λ c κs. search rules)
-    (λ c. decode_words _ c.before.before.before.before.requires c.before.before.get_u32.ensures c.before.get_u322.ensures c.get_u323.ensures))
+    (λ c. decode_words _ c.requires c.get_u32-read.ensures c.get_u32-write.ensures c.get_u32-first.ensures))

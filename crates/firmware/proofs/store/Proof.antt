@@ -5,10 +5,10 @@ use Rattle.firmware.proofs.store.Tie as tie
 
 returns : tie.Need-returns
 returns c =
-    let second = c.before.before.before.before.before.before in
-    let first = second.before.before.before.before in
-    let start = first.before.before.before in
-    record_stored start.args.s.now _ _ _ _ start.requires first.put_u32.ensures second.put_u322.ensures c.before.before.put_u323.ensures
+    let second = c in
+    let first = second in
+    let start = first in
+    record_stored start.args.s.now _ _ _ _ start.requires first.put_u32.ensures second.put_u32-2.ensures c.put_u32-3.ensures
 
 pub store_spec : {M : Type 1} → statement M
 store_spec =

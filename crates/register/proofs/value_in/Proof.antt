@@ -9,5 +9,5 @@ value_in_spec =
     (λ c. search rules)
     (λ c. search rules)
     (λ c κs. search rules)
-    (λ c. rw c.before.a-1.given.1)
-    (λ c. rw c.before.enum_told-1.given.1 c.none.ensures))
+    (λ c. rw c.in-Held.is)
+    (λ c. rw c.in-Outranked.is c.none.ensures))

@@ -14,10 +14,10 @@ all_yes_spec =
     (λ c κs. search rules)
     (λ c κs. search rules)
     (λ c.
-    let s = c.before.before.before.before in
-    heard_past s.args.q _ s.well-formed.0 s.args.n (omega arith) (λ e. c.if-count_below.true (c.before.before.count_below.ensures ∙ e ∙ sym c.before.count_below-2.ensures)))
+    let s = c in
+    heard_past s.args.q _ s.well_formed.0 s.args.n (omega arith) (λ e. c.if-count_below.true (c.count_below.ensures ∙ e ∙ sym c.count_below-2.ensures)))
     (λ c κs. search rules)
     (λ c.
-    let s = c.before.before.before.before.before in
+    let s = c in
     c.yes_below-2.ensures
-    ∙ unheard_past s.args.q _ s.well-formed.0 s.args.n (omega arith) (sym c.before.before.before.count_below.ensures ∙ c.before.if-count_below.false ∙ c.before.before.count_below-2.ensures)))
+    ∙ unheard_past s.args.q _ s.well_formed.0 s.args.n (omega arith) (sym c.count_below.ensures ∙ c.if-count_below.false ∙ c.count_below-2.ensures)))

@@ -7,7 +7,7 @@ pub on_the_way_spec : {M : Type 1} → statement M
 on_the_way_spec =
     tie.close
     (tie.spec
-    (λ c. none_comes c.before.args.t1 _ c.before.well-formed.0 _ c.if-b-ge9.true)
+    (λ c. none_comes c.args.q _ c.well_formed.0 _ c.if-b-ge9.true)
     (λ c. search rules)
     (λ c. search rules)
     (λ c κs. search rules)

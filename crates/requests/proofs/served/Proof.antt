@@ -10,4 +10,4 @@ served_spec =
     (λ c. search rules)
     (λ c. search rules)
     (λ c. search rules)
-    (λ c. none_served _ _ c.before.well-formed.0 _ _ c.if-b-lt9.false))
+    (λ c. none_served _ _ c.well_formed.0 _ _ c.if-b-lt9.false))

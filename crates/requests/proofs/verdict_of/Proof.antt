@@ -10,5 +10,5 @@ verdict_of_spec =
     (λ c κs. search rules)
     (λ c. search rules)
     (λ c κs. search rules)
-    (λ c. rw c.before.enum_told-1.given.1 (search rules))
-    (λ c. rw c.before.enum-told2.given.1 (search rules)))
+    (λ c. rw c.in-Read.is (search rules))
+    (λ c. rw c.in-Write.is (search rules)))

@@ -29,4 +29,4 @@ yes_below_spec =
     (λ c. omega arith)
     (λ c. omega arith)
     (λ c. (omega arith, rw add-one (cc)))
-    (λ c. let e : c.before.loop-k.k ≡ c.before.before.args.n = omega arith in cc))
+    (λ c. let e : c.loop-k.k ≡ c.args.n = omega arith in cc))

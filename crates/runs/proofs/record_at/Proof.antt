@@ -11,7 +11,7 @@ unfolding record_at
 record_at_spec =
     tie.close
     (tie.spec
-    (λ c. let a = c.before.args in sym (record_none a.s.now a.k _ (omega (arith, c.if-s-k.true))))
+    (λ c. let a = c.args in sym (record_none a.s.now a.k _ (omega (arith, c.if-s-k.true))))
     (λ c. search rules)
     (λ c. search rules)
     (λ c. search rules)
@@ -29,6 +29,6 @@ record_at_spec =
     (λ c. search rules)
     (λ c. search rules)
     (λ c.
-    let x = c.before.before.before.before.before.before.before.before in
-    let a = x.before.args in
+    let x = c in
+    let a = x.args in
     sym (record_there a.s.now a.k _ (omega (arith, x.if-s-k.false)))))

@@ -12,5 +12,5 @@ run_refusal_spec =
     tie.close
     (tie.spec
     (λ c. on_false _ (search tests) refl)
-    (λ c. on_true _ (search tests) (on_false _ (rw (← (and_mask c.before.before.args.size 3)) (search tests)) refl))
-    (λ c. on_true _ (search tests) (on_true _ (rw (← (and_mask c.before.before.args.size 3)) (search tests)) refl)))
+    (λ c. on_true _ (search tests) (on_false _ (rw (← (and_mask c.args.size 3)) (search tests)) refl))
+    (λ c. on_true _ (search tests) (on_true _ (rw (← (and_mask c.args.size 3)) (search tests)) refl)))

@@ -11,5 +11,5 @@ stops_spec =
     (λ c. sym (refused_stops _ _ _ c.if-refused.true))
     (λ c. search rules)
     (λ c. search rules)
-    (λ c. sym (goes_on_refusal _ _ _ c.before.before.if-refused.false c.enum_told-1.given.1))
-    (λ c. sym (goes_on_end _ _ _ c.before.before.if-refused.false c.enum-told2.given.1)))
+    (λ c. sym (goes_on_refusal _ _ _ c.if-refused.false c.in-Refusal.is))
+    (λ c. sym (goes_on_end _ _ _ c.if-refused.false c.in-End.is)))

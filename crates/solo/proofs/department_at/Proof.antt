@@ -14,7 +14,7 @@ use Rattle.solo.proofs.department_at.Tie as tie
 
 -- a floor of the code has sixteen stations
 sixteen : (f : Floor) (vs : List Val) → Is the_row f vs → length f.stations ≡ 16
-sixteen f vs g = simp length-map at g.1.1.1.1.1.1.0.1.0.1
+sixteen f vs g = g.1.1.1.1.1.1.0.1.0.1
 
 pub department_at_spec : {M : Type 1} → statement M
 department_at_spec =
@@ -22,7 +22,7 @@ department_at_spec =
     (tie.spec
     (λ c.
     let s = c.before in
-    let h = sixteen s.args.t1 _ s.well-formed.0 in
+    let h = sixteen s.args.t1 _ s.well_formed.0 in
     sym (ap (λ (x : Station). x.department) (get_or-eq_default s.args.t1.stations station0 (omega (arith, h, c.if1.true)))))
     (λ c. search rules)
     (λ c. search rules)

@@ -8,7 +8,7 @@ use Rattle.tally.proofs.TallyLaws.{take_min}
 use Rattle.tally.proofs.tally_lent.Statement.{statement}
 use Rattle.tally.proofs.tally_lent.Tie as tie
 
-at_most_requires : tie.Need-at-most-requires
+at_most_requires : tie.Need-at_most-requires
 at_most_requires c κs = search rules
 
 lend_requires : tie.Need-lend-requires
@@ -16,10 +16,10 @@ lend_requires c κs = search rules
 
 returns : tie.Need-returns
 returns c =
-    let a = c.before.before.args in
+    let a = c.args in
     let sixteen : 16 ≡ length a.boxes = omega arith in
-    let told : c.lend.result ≡ tally_of a.d (take c.before.at_most.result a.boxes) = c.lend.ensures in
-    told ∙ ap (λ (m : ℕ). tally_of a.d (take m a.boxes)) (c.before.at_most.ensures ∙ ap (min a.n) sixteen) ∙ ap (tally_of a.d) (take_min a.n a.boxes)
+    let told : c.lend.result ≡ tally_of a.d (take c.at_most.result a.boxes) = c.lend.ensures in
+    told ∙ ap (λ (m : ℕ). tally_of a.d (take m a.boxes)) (c.at_most.ensures ∙ ap (min a.n) sixteen) ∙ ap (tally_of a.d) (take_min a.n a.boxes)
 
 pub tally_lent_spec : {M : Type 1} → statement M
 tally_lent_spec = tie.close (tie.spec at_most_requires lend_requires returns)

@@ -30,13 +30,13 @@ unfolding one_more
 with_box_spec =
     tie.close
     (tie.spec
-    (λ c. on_true _ c.if1.true refl)
+    (λ c. on_true _ c.if-b.true refl)
     (λ c κs. search rules)
     (λ c. search rules)
     (λ c.
-    let a = c.before.before.before.before.before.args in
-    raised a.d a.b a.t _ c.before.before.before.before.if1.false c.before.before.before.register_of.ensures c.before.if2.true)
+    let a = c.args in
+    raised a.d a.b a.t _ c.if-b.false c.register_of-x.ensures c.if-t-rank.true)
     (λ c. search rules)
     (λ c.
-    let a = c.before.before.before.before.before.args in
-    kept a.d a.b a.t _ c.before.before.before.before.if1.false c.before.before.before.register_of.ensures c.before.if2.false))
+    let a = c.args in
+    kept a.d a.b a.t _ c.if-b.false c.register_of-x.ensures c.if-t-rank.false))

@@ -14,4 +14,4 @@ revision_of_spec =
     (λ c κs. search rules)
     (λ c.
     let s = c.before.before in
-    c.revision_below2.ensures ∙ revision_past s.args.w _ s.well-formed.0 s.args.n (omega arith)))
+    c.revision_below2.ensures ∙ revision_past s.args.w _ s.well_formed.0 s.args.n (omega arith)))

@@ -20,4 +20,4 @@ serve_read_spec =
     (λ c.
     let kept = c.before.before.before in
     let s = kept.before.before.before.before.before in
-    rw (kept.served.ensures, kept.before.held.ensures, kept.before.before.before.before.rmw_read.ensures, none_answered s.args.w _ s.well-formed.0 s.args.b _ c.if1.false)))
+    rw (kept.served.ensures, kept.before.held.ensures, kept.before.before.before.before.rmw_read.ensures, none_answered s.args.w _ s.well_formed.0 s.args.b _ c.if1.false)))

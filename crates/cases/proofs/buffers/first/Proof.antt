@@ -13,5 +13,5 @@ first_spec =
     (λ c. search rules)
     (λ c. search rules)
     (λ c. search rules)
-    (λ c. front c.before.before.args.buffer.now c.before.before.args.room)
-    (λ c. sym (take_all c.before.args.room c.before.args.buffer.now (omega arith))))
+    (λ c. front c.args.buffer.now c.args.room)
+    (λ c. sym (take_all c.args.room c.args.buffer.now (omega arith))))

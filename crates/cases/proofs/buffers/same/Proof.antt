@@ -7,10 +7,10 @@ use Rattle.cases.proofs.TextLaws.{compared, all_compared, not_said}
 use Rattle.cases.proofs.buffers.same.Statement.{statement}
 use Rattle.cases.proofs.buffers.same.Tie as tie
 
-abbrev invariant_loop : tie.invariant_loop
+abbrev invariant_loop : tie.invariant-loop-i
 invariant_loop a b i₀ i = (i ≤ length a) × (length a ≡ length b) × (take i a ≡ take i b)
 
-abbrev decreases_loop : tie.decreases_loop
+abbrev decreases_loop : tie.decreases-loop-i
 decreases_loop a b i₀ i = length a - i
 
 pub same_spec : {M : Type 1} → statement M
@@ -26,5 +26,5 @@ same_spec =
     (λ c. not_said)
     (λ c. search rules)
     (λ c. search rules)
-    (λ c. (omega arith, omega arith, compared _ _ _ c.before.before.before.loop-test.true (omega arith) c.before.before.before.before.loop.invariant.2 c.if2.false))
-    (λ c. λ _. all_compared _ _ _ c.loop-test.false (omega arith) c.before.loop.invariant.2))
+    (λ c. (omega arith, omega arith, compared _ _ _ c.loop-i-test.true (omega arith) c.loop-i.invariant.2 c.if-a-i.false))
+    (λ c. λ _. all_compared _ _ _ c.loop-i-test.false (omega arith) c.loop-i.invariant.2))

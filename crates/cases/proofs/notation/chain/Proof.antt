@@ -5,10 +5,10 @@ use lib.ListN.{length}
 use Rattle.cases.proofs.notation.chain.Statement.{statement}
 use Rattle.cases.proofs.notation.chain.Tie as tie
 
-abbrev invariant_loop : tie.invariant_loop
+abbrev invariant_loop : tie.invariant-loop-k
 invariant_loop out₀ at n count row station end₀ k₀ out end k = (k ≤ count) × (length out ≡ length out₀)
 
-abbrev decreases_loop : tie.decreases_loop
+abbrev decreases_loop : tie.decreases-loop-k
 decreases_loop out₀ at n count row station end₀ k₀ out end k = count - k
 
 pub chain_spec : {M : Type 1} → statement M

@@ -5,10 +5,10 @@ use lib.ListN.{length}
 use Rattle.cases.proofs.notation.filled.Statement.{statement}
 use Rattle.cases.proofs.notation.filled.Tie as tie
 
-abbrev invariant_loop : tie.invariant_loop
+abbrev invariant_loop : tie.invariant-loop-i
 invariant_loop notation out₀ p₀ i₀ out p i = (i ≤ length notation) × (length out ≡ length out₀)
 
-abbrev decreases_loop : tie.decreases_loop
+abbrev decreases_loop : tie.decreases-loop-i
 decreases_loop notation out₀ p₀ i₀ out p i = length notation - i
 
 pub filled_spec : {M : Type 1} → statement M

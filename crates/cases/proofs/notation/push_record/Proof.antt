@@ -5,10 +5,10 @@ use lib.ListN.{length}
 use Rattle.cases.proofs.notation.push_record.Statement.{statement}
 use Rattle.cases.proofs.notation.push_record.Tie as tie
 
-abbrev invariant_loop : tie.invariant_loop
+abbrev invariant_loop : tie.invariant-loop-i
 invariant_loop out₀ at r end₀ i₀ out end i = (i ≤ 8) × (length out ≡ length out₀)
 
-abbrev decreases_loop : tie.decreases_loop
+abbrev decreases_loop : tie.decreases-loop-i
 decreases_loop out₀ at r end₀ i₀ out end i = 8 - i
 
 pub push_record_spec : {M : Type 1} → statement M

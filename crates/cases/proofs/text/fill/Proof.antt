@@ -4,10 +4,10 @@ use lib.ListN.{length}
 use Rattle.cases.proofs.text.fill.Statement.{statement}
 use Rattle.cases.proofs.text.fill.Tie as tie
 
-abbrev invariant_loop : tie.invariant_loop
+abbrev invariant_loop : tie.invariant-loop-at
 invariant_loop s numbers at₀ i₀ at i = (i ≤ at) × (at ≤ length s)
 
-abbrev decreases_loop : tie.decreases_loop
+abbrev decreases_loop : tie.decreases-loop-at
 decreases_loop s numbers at₀ i₀ at i = length s - at
 
 pub fill_spec : {M : Type 1} → statement M

@@ -4,10 +4,10 @@ use lib.ListN.{length}
 use Rattle.cases.proofs.text.find_from.Statement.{statement}
 use Rattle.cases.proofs.text.find_from.Tie as tie
 
-abbrev invariant_loop : tie.invariant_loop
+abbrev invariant_loop : tie.invariant-loop-i
 invariant_loop s from b i₀ i = (from ≤ i) × (i ≤ length s)
 
-abbrev decreases_loop : tie.decreases_loop
+abbrev decreases_loop : tie.decreases-loop-i
 decreases_loop s from b i₀ i = length s - i
 
 pub find_from_spec : {M : Type 1} → statement M

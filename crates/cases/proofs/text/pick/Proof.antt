@@ -4,10 +4,10 @@ use lib.ListN.{length}
 use Rattle.cases.proofs.text.pick.Statement.{statement}
 use Rattle.cases.proofs.text.pick.Tie as tie
 
-abbrev invariant_loop : tie.invariant_loop
+abbrev invariant_loop : tie.invariant-loop-left
 invariant_loop pieces number numbers at₀ left₀ at left = at ≤ length pieces
 
-abbrev decreases_loop : tie.decreases_loop
+abbrev decreases_loop : tie.decreases-loop-left
 decreases_loop pieces number numbers at₀ left₀ at left = left
 
 pub pick_spec : {M : Type 1} → statement M

@@ -13,5 +13,5 @@ up_to_spec =
     (λ c. search rules)
     (λ c. search rules)
     (λ c. search rules)
-    (λ c. front c.before.before.args.s.now c.before.before.args.end)
-    (λ c. sym (take_all c.before.args.end c.before.args.s.now (omega arith))))
+    (λ c. front c.args.s.now c.args.end)
+    (λ c. sym (take_all c.args.end c.args.s.now (omega arith))))

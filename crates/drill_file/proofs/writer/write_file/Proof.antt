@@ -14,10 +14,10 @@ parts c = parts_given c.args.version c.args.n c.args.m c.args.label.now c.args.d
 -- where the writer goes on, the parts are writable
 goes_on : (c : tie.Else-refusal-ne0)
     → let start = c.before.before.before.before.before.before in
-    Writable (length start.args.buffer-1.now) (parts start)
-goes_on c = unrefused _ _ (sym c.before.write_refusal-refusal.ensures ∙ c.if-refusal-ne0.false)
+    Writable (length start.args.buffer.now) (parts start)
+goes_on c = unrefused _ _ (sym c.write_refusal-refusal.ensures ∙ c.if-refusal-ne0.false)
 
-size_fits : tie.Need-overflow-add-size
+size_fits : tie.Need-overflow_add-size
 size_fits c = let w = goes_on c in omega (arith, short_label _ _ w, short_departments _ _ w, short_run _ _ w)
 
 head_fits : tie.Need-head-first-requires
@@ -33,7 +33,7 @@ written c =
     let first = second.before.before.before.before in
     let made = first.before.before.before in
     let start = made.before.before.before.before.before.before.before in
-    written_said start.args.buffer-1.now (parts start) _ made.before.before.write_refusal-refusal.ensures made.before.if-refusal-ne0.false _ _ _ _ _ made.head-first.ensures
+    written_said start.args.buffer.now (parts start) _ made.write_refusal-refusal.ensures made.if-refusal-ne0.false _ _ _ _ _ made.head-first.ensures
     first.put_bytes.ensures second.put_bytes-2.ensures third.put_bytes-3.ensures fourth.put_bytes-4.ensures
 
 pub write_file_spec : {M : Type 1} → statement M
@@ -41,7 +41,7 @@ write_file_spec =
     tie.close
     (tie.spec
     (λ c κs. search rules)
-    (λ c. refused_said _ _ _ c.before.write_refusal-refusal.ensures c.if-refusal-ne0.true)
+    (λ c. refused_said _ _ _ c.write_refusal-refusal.ensures c.if-refusal-ne0.true)
     (λ c. search rules)
     (λ c. let w = goes_on c in omega (arith, short_label _ _ w, short_departments _ _ w))
     size_fits

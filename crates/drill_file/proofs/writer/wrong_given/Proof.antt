@@ -11,4 +11,4 @@ wrong_given_spec =
     (tie.spec
     (λ c κs. search rules)
     (λ c κs. search rules)
-    (λ c. c.departments_wrong.ensures ∙ rw c.before.departments_due.ensures refl))
+    (λ c. c.departments_wrong.ensures ∙ rw c.departments_due.ensures refl))

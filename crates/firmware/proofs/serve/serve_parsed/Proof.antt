@@ -9,5 +9,5 @@ serve_parsed_spec =
     (λ c. search rules)
     (λ c. search rules)
     (λ c κs. search rules)
-    (λ c. rw c.before.p.given.1)
-    (λ c. rw c.before.before.p2.given.1 c.serve_message.ensures))
+    (λ c. rw c.in-Refused.is)
+    (λ c. rw c.in-Accepted.is c.serve_message.ensures))

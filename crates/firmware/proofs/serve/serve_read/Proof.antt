@@ -10,15 +10,15 @@ pub serve_read_spec : {M : Type 1} → statement M
 serve_read_spec =
     tie.close
     (tie.spec
-    (λ c. read_turned _ _ c.if1.true)
+    (λ c. read_turned _ _ c.if-bytes-ne12.true)
     (λ c κs. search rules)
     (λ c κs. search rules)
     (λ c κs. search rules)
     (λ c κs. search rules)
     (λ c κs. search rules)
     (λ c.
-    let done = c.before.before.before.before.before in
-    serves_held _ _ done.before.before.if1.false _ _ done.before.load.ensures done.rmw_read.ensures (search tests) _ _ c.before.rank_in.ensures (ap (λ (v : Suit). v.r0) c.value_in.ensures))
+    let done = c in
+    serves_held _ _ done.if-bytes-ne12.false _ _ done.load.ensures done.rmw_read-done.ensures (search tests) _ _ c.rank_in-rank2.ensures (ap (λ (v : Suit). v.r0) c.value_in-value.ensures))
     (λ c.
-    let done = c.before.before.before in
-    serves_outranked _ _ done.before.before.if1.false _ _ done.before.load.ensures done.rmw_read.ensures (search tests)))
+    let done = c in
+    serves_outranked _ _ done.if-bytes-ne12.false _ _ done.load.ensures done.rmw_read-done.ensures (search tests)))

@@ -7,12 +7,12 @@ pub serve_write_spec : {M : Type 1} → statement M
 serve_write_spec =
     tie.close
     (tie.spec
-    (λ c. write_turned _ _ _ c.if1.true)
+    (λ c. write_turned _ _ _ c.if-bytes-ne12.true)
     (λ c κs. search rules)
     (λ c κs. search rules)
     (λ c.
-    let done = c.before.before in
-    serves_taken _ _ _ done.before.before.if1.false _ _ done.before.load.ensures done.rmw_write.ensures c.if2.true)
+    let done = c in
+    serves_taken _ _ _ done.if-bytes-ne12.false _ _ done.load.ensures done.rmw_write-done.ensures c.if-done.true)
     (λ c.
-    let done = c.before.before in
-    serves_not_taken _ _ _ done.before.before.if1.false _ _ done.before.load.ensures done.rmw_write.ensures c.if2.false))
+    let done = c in
+    serves_not_taken _ _ _ done.if-bytes-ne12.false _ _ done.load.ensures done.rmw_write-done.ensures c.if-done.false))

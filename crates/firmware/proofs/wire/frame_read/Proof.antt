@@ -15,15 +15,15 @@ frame_read_spec =
     (λ c κs. search rules)
     (λ c. search rules)
     (λ c.
-    let told = c.before.before.before.before in
-    said_refused _ _ told.before.read_frame.ensures.0 _ _ _ _ c.before.refusal_in.ensures told.kind_in.ensures c.before.before.before.first_in.ensures
-    c.before.before.second_in.ensures c.if1.true)
+    let told = c in
+    said_refused _ _ told.read_frame-read.ensures.0 _ _ _ _ c.refusal_in-refusal.ensures told.kind_in.ensures c.first_in.ensures
+    c.second_in.ensures c.if-refusal-ne0.true)
     (λ c κs. search rules)
     (λ c.
-    let told = c.before.before.before.before.before in
-    said_within _ _ told.before.read_frame.ensures.0 _ _ _ _ c.before.before.refusal_in.ensures told.kind_in.ensures c.before.before.before.before.first_in.ensures
-    c.before.before.before.second_in.ensures c.before.if1.false _ c.frame_end.ensures)
+    let told = c in
+    said_within _ _ told.read_frame-read.ensures.0 _ _ _ _ c.refusal_in-refusal.ensures told.kind_in.ensures c.first_in.ensures
+    c.second_in.ensures c.if-refusal-ne0.false _ c.frame_end-end.ensures)
     (λ c.
-    let told = c.before.before.before.before.before in
-    said_accepted _ _ told.before.read_frame.ensures.0 _ _ _ _ c.before.before.refusal_in.ensures told.kind_in.ensures c.before.before.before.before.first_in.ensures
-    c.before.before.before.second_in.ensures c.before.if1.false _ c.frame_end.ensures))
+    let told = c in
+    said_accepted _ _ told.read_frame-read.ensures.0 _ _ _ _ c.refusal_in-refusal.ensures told.kind_in.ensures c.first_in.ensures
+    c.second_in.ensures c.if-refusal-ne0.false _ c.frame_end-end.ensures))

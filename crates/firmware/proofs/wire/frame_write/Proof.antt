@@ -13,10 +13,10 @@ frame_write_spec =
     (λ c. search rules)
     (λ c κs. search rules)
     (λ c. search rules)
-    (λ c. left_turned _ _ _ c.before.before.before.message_of.ensures _ c.before.given.given.1)
+    (λ c. left_turned _ _ _ c.message_of-given.ensures _ c.in-Refused.is)
     (λ c. search rules)
     (λ c.
-    let written = c.before.before.before in
-    let made = written.before.before.before in
-    left_passed _ _ _ made.before.before.message_of.ensures _ made.given2.given.1 _ _ _ written.write_frame.ensures.0 written.write_frame.ensures.1.0
-    written.write_frame.ensures.1.1))
+    let written = c in
+    let made = written in
+    left_passed _ _ _ made.message_of-given.ensures _ made.in-Accepted.is _ _ _ written.write_frame-written.ensures.0 written.write_frame-written.ensures.1.0
+    written.write_frame-written.ensures.1.1))

@@ -9,25 +9,25 @@ use Rattle.frames.proofs.reader.behind_frame.Statement.{statement}
 use Rattle.frames.proofs.reader.behind_frame.Tie as tie
 
 -- the refusal, and where the frame ends if there is none
-told : (c : tie.After-refusal-in) → c.refusal_in.result ≡ frame_refusal c.before.before.before.args.input.now
-told c = c.refusal_in.ensures ∙ c.before.read_frame.ensures.1
+told : (c : tie.After-refusal_in) → c.refusal_in.result ≡ frame_refusal c.args.input.now
+told c = c.refusal_in.ensures ∙ c.read_frame.ensures.1
 
-within : (c : tie.After-frame-end) → c.frame_end.result ≤ length c.before.before.before.before.before.args.input.now
-within c = rw c.frame_end.ensures (ends_within _ _ (told c.before.before) c.before.if1.false)
+within : (c : tie.After-frame_end-end) → c.frame_end-end.result ≤ length c.args.input.now
+within c = rw c.frame_end-end.ensures (ends_within _ _ (told c.before.before) c.if-refusal_in-ne0.false)
 
-refused : tie.Need-returns
+refused : tie.Need-returns-then-refusal_in-ne0
 refused c =
     let e = told c.before.before in
-    let taken = c.before.if1.true in
+    let taken = c.if-refusal_in-ne0.true in
     behind_lies _ _ _ 0 0 (record { block = refl; offset = omega arith; within = omega arith; bytes = refl }) (start_refused _ _ e taken) (behind_refused _ _ e taken)
 
-accepted : tie.Need-returns-2
+accepted : tie.Need-returns
 accepted c =
     let e = told c.before.before.before in
-    let left = c.before.before.if1.false in
-    let ends = c.before.frame_end.ensures in
+    let left = c.if-refusal_in-ne0.false in
+    let ends = c.frame_end-end.ensures in
     let lies = within c.before in
-    behind_lies _ _ _ c.before.frame_end.result (length c.before.before.before.before.before.before.args.input.now - c.before.frame_end.result)
+    behind_lies _ _ _ c.frame_end-end.result (length c.args.input.now - c.frame_end-end.result)
     (record { block = refl; offset = omega arith; within = omega arith; bytes = refl }) (ends ∙ start_accepted _ _ e left) (behind_whole _ _ e left _ ends)
 
 pub behind_frame_spec : {M : Type 1} → statement M

@@ -18,5 +18,5 @@ read_frame_spec =
     (λ c κs. search rules)
     (λ c κs. search rules)
     (λ c.
-    let first = c.before.before in
-    parsed_formed _ (search tests) (search tests) _ _ _ _ c.message_of.ensures first.before.byte_at.ensures first.get_u32.ensures c.before.get_u322.ensures))
+    let first = c in
+    parsed_formed _ (search tests) (search tests) _ _ _ _ c.message_of.ensures first.byte_at.ensures first.get_u32.ensures c.get_u32-2.ensures))

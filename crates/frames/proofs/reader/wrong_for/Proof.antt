@@ -15,7 +15,7 @@ wrong_for_spec =
     (tie.spec
     (λ c κs. search rules)
     (λ c κs. search rules)
-    (λ c. omega (arith, c.fields_in.ensures, fields_few c.before.before.before.args.kind))
-    (λ c. omega (arith, c.fields_in.ensures, fields_few c.before.before.before.args.kind))
+    (λ c. omega (arith, c.fields_in.ensures, fields_few c.args.kind))
+    (λ c. omega (arith, c.fields_in.ensures, fields_few c.args.kind))
     (λ c. on_true _ (search tests) (rw c.fields_in.ensures))
     (λ c. on_false _ (search tests) refl))

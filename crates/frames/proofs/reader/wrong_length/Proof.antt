@@ -7,18 +7,18 @@ pub wrong_length_spec : {M : Type 1} → statement M
 wrong_length_spec =
     tie.close
     (tie.spec
-    (λ c. length_missing _ c.if1.true)
+    (λ c. length_missing _ c.if-input-lt2.true)
     (λ c κs. search rules)
-    (λ c. length_past _ c.before.before.if1.false _ c.before.frame_end.ensures c.if2.true)
+    (λ c. length_past _ c.if-input-lt2.false _ c.frame_end.ensures c.if-input-frame_end.true)
     (λ c κs. search rules)
     (λ c. search rules)
     (λ c.
-    let ends = c.before.before in
-    too_short _ ends.before.before.if1.false _ ends.before.frame_end.ensures ends.if2.false _ c.before.stated.ensures c.if3.true)
+    let ends = c in
+    too_short _ ends.if-input-lt2.false _ ends.frame_end.ensures ends.if-input-frame_end.false _ c.stated-rest.ensures c.if-rest-lt2.true)
     (λ c κs. search rules)
     (λ c κs. search rules)
     (λ c.
-    let told = c.before.before.before in
-    let ends = told.before in
-    of_its_kind _ ends.before.before.if1.false _ ends.before.frame_end.ensures ends.if2.false _ told.stated.ensures c.before.before.if3.false _
-    c.before.byte_at.ensures _ c.wrong_for.ensures))
+    let told = c in
+    let ends = told in
+    of_its_kind _ ends.if-input-lt2.false _ ends.frame_end.ensures ends.if-input-frame_end.false _ told.stated-rest.ensures c.if-rest-lt2.false _
+    c.byte_at.ensures _ c.wrong_for.ensures))

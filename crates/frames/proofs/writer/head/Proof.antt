@@ -9,8 +9,8 @@ head_spec =
     tie.close
     (tie.spec
     (λ c κs. search rules)
-    (λ c. omega (arith, c.fields_in.ensures, fields_few c.before.args.kind))
-    (λ c. omega (arith, c.fields_in.ensures, fields_few c.before.args.kind))
-    (λ c. omega (arith, c.fields_in.ensures, fields_few c.before.args.kind))
+    (λ c. omega (arith, c.fields_in.ensures, fields_few c.args.kind))
+    (λ c. omega (arith, c.fields_in.ensures, fields_few c.args.kind))
+    (λ c. omega (arith, c.fields_in.ensures, fields_few c.args.kind))
     (λ c κs. search rules)
     (λ c. search rules))

@@ -13,7 +13,7 @@ unfolding count_below
 count_below_spec =
     tie.close
     (tie.spec
-    (λ c. sym (count_all 16 _ _ c.before.ranges.mask.fits c.if-n-ge16.true))
+    (λ c. sym (count_all 16 _ _ c.ranges.mask.fits c.if-n-ge16.true))
     (λ c. search rules)
-    (λ c. rw (one_shifted c.before.args.n c.if-n-ge16.false) (pow_pos c.before.args.n))
-    (λ c. rw (one_shifted c.before.args.n c.if-n-ge16.false, and_mask c.before.args.mask c.before.args.n)))
+    (λ c. rw (one_shifted c.args.n c.if-n-ge16.false) (pow_pos c.args.n))
+    (λ c. rw (one_shifted c.args.n c.if-n-ge16.false, and_mask c.args.mask c.args.n)))

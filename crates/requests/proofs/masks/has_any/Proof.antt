@@ -8,6 +8,6 @@ pub has_any_spec : {M : Type 1} → statement M
 has_any_spec =
     tie.close
     (tie.spec
-    (λ c. sym (bit_past 16 _ _ c.before.ranges.mask.fits c.if-b-ge16.true))
+    (λ c. sym (bit_past 16 _ _ c.ranges.mask.fits c.if-b-ge16.true))
     (λ c κs. search rules)
     (λ c. c.has.ensures))

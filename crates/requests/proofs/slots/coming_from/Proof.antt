@@ -9,10 +9,10 @@ coming_from_spec =
     tie.close
     (tie.spec
     (λ c κs. search rules)
-    (λ c. not_coming _ _ _ _ c.before.has.ensures c.if-has.true)
+    (λ c. not_coming _ _ _ _ c.has.ensures c.if-has.true)
     (λ c. search rules)
     (λ c. search rules)
     (λ c. search rules)
-    (λ c. coming_by _ _ _ _ c.before.before.before.has.ensures Unissued c.before.before.if-has.false c.enum_told-1.given.1)
-    (λ c. coming_by _ _ _ _ c.before.before.before.has.ensures Waiting c.before.before.if-has.false c.enum-told2.given.1)
-    (λ c. coming_by _ _ _ _ c.before.before.before.has.ensures Answered c.before.before.if-has.false c.enum-told3.given.1))
+    (λ c. coming_by _ _ _ _ c.has.ensures Unissued c.if-has.false c.in-Unissued.is)
+    (λ c. coming_by _ _ _ _ c.has.ensures Waiting c.if-has.false c.in-Waiting.is)
+    (λ c. coming_by _ _ _ _ c.has.ensures Answered c.if-has.false c.in-Answered.is))

@@ -29,4 +29,4 @@ waiting_below_spec =
     (λ c. omega arith)
     (λ c. omega arith)
     (λ c. (rw add-one (cc), omega arith))
-    (λ c. let e : c.before.loop-k.k ≡ min c.before.before.before.args.n 9 = omega arith in cc (waiting_most c.before.before.before.args.n)))
+    (λ c. let e : c.loop-k.k ≡ min c.args.n 9 = omega arith in cc (waiting_most c.args.n)))

@@ -4,10 +4,10 @@ use lib.ListN.{length}
 use Rattle.suite_frames.proofs.frame.get.Statement.{statement}
 use Rattle.suite_frames.proofs.frame.get.Tie as tie
 
-abbrev invariant_loop : tie.invariant_loop
+abbrev invariant_loop : tie.invariant-loop-left
 invariant_loop words input left₀ t6 t7 left = left ≤ length input
 
-abbrev decreases_loop : tie.decreases_loop
+abbrev decreases_loop : tie.decreases-loop-left
 decreases_loop words input left₀ t6 t7 left = left
 
 pub get_spec : {M : Type 1} → statement M

@@ -16,4 +16,4 @@ one_spec =
     (λ c κs. search rules)
     (λ c κs. search rules)
     (λ c κs. search rules)
-    (λ c. rw c.before.before.before.before.before.before.before.behind_frame.ensures.0 (behind_shorter _)))
+    (λ c. rw c.behind_frame-behind.ensures.0 (behind_shorter _)))
