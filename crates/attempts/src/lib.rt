@@ -1,4 +1,6 @@
 // An attempt: its row, with what its two phases were answered, and the station that is in it.
+#![tactic(auto)]
+
 use register::{Department, Register};
 use requests::Requests;
 use suits::Suit;

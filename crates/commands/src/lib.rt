@@ -1,4 +1,6 @@
 // A step as it is asked for, by its 8-byte record or its fields, and as it answers.
+#![tactic(auto)]
+
 ghost use Rattle.std.specs.Prelude.{◌≡◌, drop, ◌≤◌};
 ghost use Rattle.requests.specs.Requests.{of_phase};
 ghost use Rattle.commands.specs.Commands.{all_zero, spared, command_of, encode_of};

@@ -1,5 +1,7 @@
 // The places of a floor's arrays that a command names, and the row of the smallest rank found so far. No floor is known here: how long an
 // array is, is handed in, so that floors of other sizes use the same.
+#![tactic(auto)]
+
 ghost use Rattle.std.specs.Prelude.{◌≡◌};
 ghost use Rattle.places.specs.Places.{place_in, attempt_in, box_in, station_in};
 ghost use Rattle.places.specs.Search.{lower_in};

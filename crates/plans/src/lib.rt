@@ -1,4 +1,6 @@
 // What the plan of a solo finish is made of, on whatever floor: the round that it picks, and the two steps with each box that it asks.
+#![tactic(auto)]
+
 ghost use Rattle.std.specs.Prelude.{◌≡◌};
 ghost use mathlib.Core.List.{flatten};
 ghost use Rattle.base.specs.Bytes.{bytes_put};

@@ -1,2 +1,1 @@
-pub mod DepartmentValues
 pub mod TallyLaws

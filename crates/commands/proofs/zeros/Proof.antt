@@ -12,30 +12,30 @@ use Rattle.commands.proofs.zeros.Statement.{statement}
 use Rattle.commands.proofs.zeros.Tie as tie
 
 -- what is left decides
-abbrev invariant_loop : tie.invariant_loop
+abbrev invariant_loop : tie.invariant-loop-i
 invariant_loop from r i₀ i = (i ≤ 8) × (length r ≡ 8) × (all_zero (drop from r) ≡ all_zero (drop i r))
 
-abbrev decreases_loop : tie.decreases_loop
+abbrev decreases_loop : tie.decreases-loop-i
 decreases_loop from r i₀ i = 8 - i
 
-loop_holds : tie.Need-loop-init invariant_loop decreases_loop
+loop_holds : tie.Need-loop-i-init invariant_loop decreases_loop
 loop_holds c = (search rules, search rules, refl)
 
-returns : tie.Need-returns invariant_loop decreases_loop
+returns : tie.Need-returns-then-r-i-ne0 invariant_loop decreases_loop
 unfolding all_zero
 returns c =
-    let l = c.before.before.loop in
-    rw (l.invariant.2, drop-cons {A = ℕ} c.before.before.before.args.t1 l.i 0 (omega arith)) (on_false _ (search tests) refl)
+    let l = c.loop-i in
+    rw (l.invariant.2, drop-cons {A = ℕ} c.args.r l.i 0 (omega arith)) (on_false _ (search tests) refl)
 
-loop_again : tie.Need-loop-preserved invariant_loop decreases_loop
+loop_again : tie.Need-loop-i-preserved invariant_loop decreases_loop
 unfolding all_zero
 loop_again c =
-    let l = c.before.before.loop in
-    (omega arith, l.invariant.1, l.invariant.2 ∙ rw (add-one, drop-cons {A = ℕ} c.before.before.before.args.t1 l.i 0 (omega arith)) (sym (on_true _ (search tests) refl)))
+    let l = c.loop-i in
+    (omega arith, l.invariant.1, l.invariant.2 ∙ rw (add-one, drop-cons {A = ℕ} c.args.r l.i 0 (omega arith)) (sym (on_true _ (search tests) refl)))
 
-returns_2 : tie.Need-returns-2 invariant_loop decreases_loop
+returns_2 : tie.Need-returns invariant_loop decreases_loop
 unfolding all_zero
-returns_2 c = rw (c.before.loop.invariant.2, drop_of_length-le {A = ℕ} c.before.before.args.t1 {i = c.before.loop.i} (omega arith))
+returns_2 c = rw (c.loop-i.invariant.2, drop_of_length-le {A = ℕ} c.args.r {i = c.loop-i.i} (omega arith))
 
 pub zeros_spec : {M : Type 1} → statement M
 zeros_spec =

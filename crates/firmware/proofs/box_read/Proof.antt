@@ -8,28 +8,21 @@ use Rattle.firmware.proofs.box_read.Tie as tie
 
 ends_16 : tie.Need-returns-then-bytes-ne12
 ends_16 c =
-    let e = read_16 _ _ _ (⊎_elim (λ t. inl t.taken) (λ t. inr (eqb-false _ 8 (not-true _ t.1.taken))) c.if-bytes-ne12.branch) in (e, read_refused _ _ _ 16 refl refl e)
+    let e = read_16 _ _ _ (⊎_elim inl (λ t. inr t.1) c.then-bytes-ne12.either) in (e, read_refused _ _ _ 16 refl refl e)
 
 ends_17 : tie.Need-returns-then-rank-eq0
 ends_17 c =
-    let e = read_17 _ _ _ c.if-bytes-ne12.false (eqb-true _ 8 (not-false _ c.if-reply-ne8.false)) c.if-rank-eq0.true in (e, read_refused _ _ _ 17 refl refl e)
+    let e = read_17 _ _ _ c.if-bytes-ne12.false c.if-reply-ne8.false c.if-rank-eq0.true in (e, read_refused _ _ _ 17 refl refl e)
 
 ends_0 : tie.Need-returns-in-Held
 ends_0 c =
-    let stored = c in
-    let told = stored in
-    let done = told in
-    let past = done in
-    read_ends_0 _ _ _ past.if-bytes-ne12.false (eqb-true _ 8 (not-false _ past.if-reply-ne8.false)) past.if-rank-eq0.false _ _ done.load.ensures
-    done.rmw_read-done.ensures _ _ told.in-Held.is _ _ stored.store.ensures c.store_reply.ensures
+    read_ends_0 _ _ _ c.if-bytes-ne12.false c.if-reply-ne8.false c.if-rank-eq0.false _ _ c.load.ensures
+    c.rmw_read-done.ensures _ _ c.in-Held.is _ _ c.store.ensures c.store_reply.ensures
 
 ends_100 : tie.Need-returns-in-Outranked
 ends_100 c =
-    let told = c in
-    let done = told in
-    let past = done in
-    read_ends_100 _ _ _ past.if-bytes-ne12.false (eqb-true _ 8 (not-false _ past.if-reply-ne8.false)) past.if-rank-eq0.false _ _ done.load.ensures
-    done.rmw_read-done.ensures told.in-Outranked.is _ c.store_reply-in-Outranked.ensures
+    read_ends_100 _ _ _ c.if-bytes-ne12.false c.if-reply-ne8.false c.if-rank-eq0.false _ _ c.load.ensures
+    c.rmw_read-done.ensures c.in-Outranked.is _ c.store_reply-in-Outranked.ensures
 
 pub box_read_spec : {M : Type 1} → statement M
 box_read_spec =
@@ -41,9 +34,9 @@ box_read_spec =
     (λ c κs. search rules)
     (λ c. search rules)
     (λ c κs. search rules)
-    (λ c κs. eqb-true _ 8 (not-false _ c.if-reply-ne8.false))
+    (λ c κs. c.if-reply-ne8.false)
     (λ c. search rules)
-    (λ c κs. eqb-true _ 8 (not-false _ c.if-reply-ne8.false))
+    (λ c κs. c.if-reply-ne8.false)
     (λ c. search rules)
     (λ c. search rules)
     ends_0

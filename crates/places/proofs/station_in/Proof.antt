@@ -13,7 +13,7 @@ station_in_spec =
     (λ c. search rules)
     (λ c. search rules)
     (λ c. search rules)
-    (λ c. rw c.before.c.given.1)
+    (λ c. rw c.in-Begin.is)
     (λ c. search rules)
     (λ c. search rules)
     (λ c. search rules)

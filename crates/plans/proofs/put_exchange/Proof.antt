@@ -8,16 +8,16 @@ use Rattle.plans.proofs.put_exchange.Statement.{statement}
 use Rattle.plans.proofs.put_exchange.Tie as tie
 
 -- Both are put; the second into what the first left.
-returns : tie.Need-returns-3
+returns : tie.Need-returns
 returns c =
-    let second = c.before.before in
-    let first = second.before.before.before.before.before in
-    let codes = first.before.before.before in
-    let tests = codes.before.before in
-    let a = tests.before.before.before.args in
-    let serve = rw codes.before.encode.ensures at first.put_bytes.ensures in
-    let deliver = rw codes.encode2.ensures at second.put_bytes2.ensures in
-    let fits = room 16 _ _ tests.before.if1.false tests.if2.false in
+    let second = c in
+    let first = second in
+    let codes = first in
+    let tests = codes in
+    let a = tests.args in
+    let serve = rw codes.encode-serve.ensures at first.put_bytes.ensures in
+    let deliver = rw codes.encode-deliver.ensures at second.put_bytes-2.ensures in
+    let fits = room 16 _ _ tests.if-out-lt16.false tests.if-out-at.false in
     rw serve at deliver ∙ exchange_put a.out.now a.at a.p a.a a.b fits
 
 pub put_exchange_spec : {M : Type 1} → statement M
@@ -25,9 +25,9 @@ unfolding bytes_put
 put_exchange_spec =
     tie.close
     (tie.spec
-    (λ c. let a = c.before.before.args in on_false _ (rw (exchange_size a.p a.a a.b) (none_in_short 16 _ _ c.if1.true)) refl)
+    (λ c. let a = c.args in on_false _ (rw (exchange_size a.p a.a a.b) (none_in_short 16 _ _ c.if-out-lt16.true)) refl)
     (λ c. search rules)
-    (λ c. let a = c.before.before.before.args in on_false _ (rw (exchange_size a.p a.a a.b) (none_past 16 _ _ c.if2.true)) refl)
+    (λ c. let a = c.args in on_false _ (rw (exchange_size a.p a.a a.b) (none_past 16 _ _ c.if-out-at.true)) refl)
     (λ c κs. search rules)
     (λ c κs. search rules)
     (λ c. search rules)

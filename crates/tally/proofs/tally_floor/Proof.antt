@@ -17,8 +17,8 @@ abbrev decreases_loop : tie.decreases-loop-left
 decreases_loop n d boxes t₀ left₀ t left = left
 
 -- no more than the nine boxes are taken
-few : (c : tie.At-loop-left invariant_loop decreases_loop) → length (take c.args.n c.args.t1) ≤ 9
-few c = let a = c.args in omega (arith, length-take a.n a.t1, min-le_right a.n (length a.t1))
+few : (c : tie.At-loop-left invariant_loop decreases_loop) → length (take c.args.n c.args.boxes) ≤ 9
+few c = let a = c.args in omega (arith, length-take a.n a.boxes, min-le_right a.n (length a.boxes))
 
 at_most_requires : tie.Need-at_most-left-requires invariant_loop decreases_loop
 at_most_requires c κs = tt
@@ -26,10 +26,10 @@ at_most_requires c κs = tt
 loop_holds : tie.Need-loop-left-init invariant_loop decreases_loop
 loop_holds c =
     let a = c.args in
-    let nine : length a.t1 ≡ 9 = omega arith in
+    let nine : length a.boxes ≡ 9 = omega arith in
     let told : c.at_most-left.result ≡ min a.n 9 = c.at_most-left.ensures in
-    let all : length (take a.n a.t1) ≡ c.at_most-left.result = length-take a.n a.t1 ∙ ap (min a.n) nine ∙ sym told in
-    (omega (arith, all), (nine, tally_end a.d (take a.n a.t1) c.at_most-left.result (omega (arith, all))))
+    let all : length (take a.n a.boxes) ≡ c.at_most-left.result = length-take a.n a.boxes ∙ ap (min a.n) nine ∙ sym told in
+    (omega (arith, all), (nine, tally_end a.d (take a.n a.boxes) c.at_most-left.result (omega (arith, all))))
 
 sub_left : tie.Need-overflow_sub-left invariant_loop decreases_loop
 sub_left c = omega arith
@@ -44,7 +44,7 @@ with_box_requires : tie.Need-with_box-t-requires invariant_loop decreases_loop
 with_box_requires c κs =
     let a = c.args in
     let l = c.loop-left in
-    count_fits a.d l.t (drop l.left (take a.n a.t1)) l.invariant.1.1 (omega (arith, length-drop l.left (take a.n a.t1), few c.before.before))
+    count_fits a.d l.t (drop l.left (take a.n a.boxes)) l.invariant.1.1 (omega (arith, length-drop l.left (take a.n a.boxes), few c.before.before))
 
 loop_less : tie.Need-loop-left-smaller invariant_loop decreases_loop
 loop_less c = omega arith
@@ -54,12 +54,12 @@ loop_again c =
     let a = c.args in
     let l = c.loop-left in
     let next : l.left ≡ suc (l.left - 1) = omega arith in
-    let inside : l.left - 1 < a.n = omega (arith, length-take a.n a.t1, min-le_left a.n (length a.t1)) in (
+    let inside : l.left - 1 < a.n = omega (arith, length-take a.n a.boxes, min-le_left a.n (length a.boxes)) in (
       omega arith,
       (
         l.invariant.1.0,
-        tally_at a.d (take a.n a.t1) l.left (l.left - 1) _ l.t c.with_box-t.result next (omega arith) l.invariant.1.1
-            (c.with_box-t.ensures ∙ ap (λ (y : StorageBox). one_more a.d y l.t) (sym (get_or-take a.n a.t1 (l.left - 1) _ inside))),
+        tally_at a.d (take a.n a.boxes) l.left (l.left - 1) _ l.t c.with_box-t.result next (omega arith) l.invariant.1.1
+            (c.with_box-t.ensures ∙ ap (λ (y : StorageBox). one_more a.d y l.t) (sym (get_or-take a.n a.boxes (l.left - 1) _ inside))),
       ),
     )
 
@@ -67,7 +67,7 @@ returns : tie.Need-returns invariant_loop decreases_loop
 returns c =
     let a = c.args in
     let none_left : c.loop-left.left ≡ 0 = omega arith in
-    c.loop-left.invariant.1.1 ∙ ap (λ (m : ℕ). tally_of a.d (drop m (take a.n a.t1))) none_left
+    c.loop-left.invariant.1.1 ∙ ap (λ (m : ℕ). tally_of a.d (drop m (take a.n a.boxes))) none_left
 
 pub tally_floor_spec : {M : Type 1} → statement M
 tally_floor_spec =

@@ -7,10 +7,10 @@ use Rattle.attempts.specs.Rows.{best_of}
 use Rattle.attempts.proofs.rows.best_of.Statement.{statement}
 use Rattle.attempts.proofs.rows.best_of.Tie as tie
 
-abbrev invariant_loop : tie.invariant_loop
+abbrev invariant_loop : tie.invariant-loop-k
 invariant_loop mask n slots x₀ k₀ x k = (k ≤ n) × (x ≡ best_of slots mask k)
 
-abbrev decreases_loop : tie.decreases_loop
+abbrev decreases_loop : tie.decreases-loop-k
 decreases_loop mask n slots x₀ k₀ x k = n - k
 
 pub best_of_spec : {M : Type 1} → statement M
@@ -21,7 +21,7 @@ best_of_spec =
     invariant_loop
     decreases_loop
     (λ c κs. search rules)
-    (λ c. (search rules, rw c.none.ensures))
+    (λ c. (search rules, rw c.none-value.ensures))
     (λ c κs. search rules)
     (λ c. omega arith)
     (λ c. omega arith)
@@ -30,4 +30,4 @@ best_of_spec =
     (λ c. omega arith)
     (λ c. omega arith)
     (λ c. (omega arith, rw add-one (cc)))
-    (λ c. let e : c.before.loop.k ≡ c.before.before.before.args.n = omega arith in cc))
+    (λ c. let e : c.loop-k.k ≡ c.args.n = omega arith in cc))

@@ -10,5 +10,5 @@ comes_spec =
     (λ c κs. search rules)
     (λ c. search rules)
     (λ c κs. search rules)
-    (λ c. rw c.before.before.enum_told.given.1 c.on_the_way.ensures)
-    (λ c. rw c.before.before.enum-told2.given.1 c.on_the_way2.ensures))
+    (λ c. rw c.in-Read.is c.on_the_way.ensures)
+    (λ c. rw c.in-Write.is c.on_the_way-in-Write.ensures))

@@ -8,5 +8,5 @@ requests_of_spec =
     (tie.spec
     (λ c. search rules)
     (λ c. search rules)
-    (λ c. rw c.before.enum_told.given.1)
-    (λ c. rw c.before.enum-told2.given.1))
+    (λ c. rw c.in-Read.is)
+    (λ c. rw c.in-Write.is))

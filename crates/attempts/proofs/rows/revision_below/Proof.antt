@@ -12,5 +12,5 @@ revision_below_spec =
     tie.close
     (tie.spec
     (λ c κs. search rules)
-    (λ c. rw (← c.before.before.before.best_of.ensures) (on_true _ (search tests) (refl)))
-    (λ c. rw (← c.before.before.before.best_of.ensures) (on_false _ (search tests) (refl))))
+    (λ c. rw (← c.best_of-x.ensures) (on_true _ (search tests) (refl)))
+    (λ c. rw (← c.best_of-x.ensures) (on_false _ (search tests) (refl))))

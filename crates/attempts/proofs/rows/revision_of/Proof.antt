@@ -13,5 +13,5 @@ revision_of_spec =
     (λ c. search rules)
     (λ c κs. search rules)
     (λ c.
-    let s = c.before.before in
-    c.revision_below2.ensures ∙ revision_past s.args.w _ s.well_formed.0 s.args.n (omega arith)))
+    let s = c in
+    c.revision_below-2.ensures ∙ revision_past s.args.w _ s.well_formed.0 s.args.n (omega arith)))

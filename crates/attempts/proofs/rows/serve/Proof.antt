@@ -10,5 +10,5 @@ serve_spec =
     (λ c κs. search rules)
     (λ c. search rules)
     (λ c κs. search rules)
-    (λ c. rw c.before.enum_told.given.1 c.serve_read.ensures)
-    (λ c. rw c.before.enum-told2.given.1 c.serve_write.ensures))
+    (λ c. rw c.in-Read.is c.serve_read.ensures)
+    (λ c. rw c.in-Write.is c.serve_write.ensures))

@@ -16,8 +16,8 @@ serve_read_spec =
     (λ c. search rules)
     (λ c.
     let kept = c.before.before.before in
-    rw (c.before.value_in.ensures, c.before.before.rank_in.ensures, kept.served.ensures, kept.before.held.ensures, kept.before.before.before.before.rmw_read.ensures))
+    rw (c.value_in-value.ensures, c.rank_in-rank.ensures, kept.served-read.ensures, kept.held.ensures, kept.rmw_read-done.ensures))
     (λ c.
-    let kept = c.before.before.before in
-    let s = kept.before.before.before.before.before in
-    rw (kept.served.ensures, kept.before.held.ensures, kept.before.before.before.before.rmw_read.ensures, none_answered s.args.w _ s.well_formed.0 s.args.b _ c.if1.false)))
+    let kept = c in
+    let s = kept in
+    rw (kept.served-read.ensures, kept.held.ensures, kept.rmw_read-done.ensures, none_answered s.args.w _ s.well_formed.0 s.args.b _ c.if-b-lt9.false)))

@@ -8,4 +8,4 @@ serve_write_spec =
     (tie.spec
     (λ c κs. search rules)
     (λ c κs. search rules)
-    (λ c. rw (c.served.ensures, c.before.before.before.rmw_write.ensures)))
+    (λ c. rw (c.served-write.ensures, c.rmw_write-done.ensures)))

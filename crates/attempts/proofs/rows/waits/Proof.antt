@@ -10,5 +10,5 @@ waits_spec =
     (λ c κs. search rules)
     (λ c. search rules)
     (λ c κs. search rules)
-    (λ c. rw c.before.before.enum_told.given.1 c.waits.ensures)
-    (λ c. rw c.before.before.enum-told2.given.1 c.waits2.ensures))
+    (λ c. rw c.in-Read.is c.waits.ensures)
+    (λ c. rw c.in-Write.is c.waits-in-Write.ensures))

@@ -14,4 +14,4 @@ waits_at_spec =
     (λ c κs. search rules)
     (λ c. on_true _ (search tests) refl)
     (λ c κs. search rules)
-    (λ c. on_false _ (search tests) c.waits2.ensures))
+    (λ c. on_false _ (search tests) c.waits-2.ensures))

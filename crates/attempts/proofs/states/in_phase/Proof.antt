@@ -10,5 +10,5 @@ in_phase_spec =
     (λ c κs. search rules)
     (λ c. search rules)
     (λ c κs. search rules)
-    (λ c. rw c.before.enum_told.given.1 c.reading.ensures)
-    (λ c. rw c.before.enum-told2.given.1 c.writing.ensures))
+    (λ c. rw c.in-Read.is c.reading.ensures)
+    (λ c. rw c.in-Write.is c.writing.ensures))

@@ -12,7 +12,7 @@ reading_spec =
     (λ c. search rules)
     (λ c. search rules)
     (λ c. search rules)
-    (λ c. rw c.before.s.given.1)
+    (λ c. rw c.in-Reading.is)
     (λ c. search rules)
     (λ c. search rules)
     (λ c. search rules))

@@ -13,6 +13,6 @@ writing_spec =
     (λ c. search rules)
     (λ c. search rules)
     (λ c. search rules)
-    (λ c. rw c.before.s.given.1)
+    (λ c. rw c.in-Writing.is)
     (λ c. search rules)
     (λ c. search rules))

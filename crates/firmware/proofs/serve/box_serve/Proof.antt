@@ -6,15 +6,10 @@ use Rattle.firmware.proofs.ServeLaws.{ends_turned, twelve, ends_short, ends_serv
 use Rattle.firmware.proofs.serve.box_serve.Statement.{statement}
 use Rattle.firmware.proofs.serve.box_serve.Tie as tie
 
--- what came of the request
-told : (c : tie.After-serve_parsed-served) → c.serve_parsed-served.result ≡ serving c.args.bytes.now c.args.input.now
-told c = c.serve_parsed-served.ensures ∙ ap (served_in _) c.read_frame.ensures.0
-
 -- a request that was served was served on 12 bytes
 sized : (c : tie.After-store-arg-1) → length c.args.bytes.now ≡ 12
 sized c =
-    let made = c in
-    twelve _ _ _ (told made.before.before) _ _ made.in-Served.is
+    twelve _ _ _ (c.serve_parsed-served.ensures ∙ ap (served_in _) c.read_frame.ensures.0) _ _ c.in-Served.is
 
 pub box_serve_spec : {M : Type 1} → statement M
 box_serve_spec =
@@ -30,18 +25,13 @@ box_serve_spec =
     (λ c. search rules)
     (λ c. search rules)
     (λ c.
-    let written = c in
-    let made = written in
-    let e = written.write_frame-written.ensures in
-    ends_short _ _ _ _ (told made.before.before) _ _ made.in-Served.is _ _ _ e.0 e.1.0 e.1.1 c.if-written-ne0.true)
+    let e = c.write_frame-written.ensures in
+    ends_short _ _ _ _ (c.serve_parsed-served.ensures ∙ ap (served_in _) c.read_frame.ensures.0) _ _ c.in-Served.is _ _ _ e.0 e.1.0 e.1.1 c.if-written-ne0.true)
     (λ c κs. sized c)
     (λ c. search rules)
-    (λ c. ends_turned _ _ _ _ (told c.before.before.before) _ c.in-TurnedAway.is)
+    (λ c. ends_turned _ _ _ _ (c.serve_parsed-served.ensures ∙ ap (served_in _) c.read_frame.ensures.0) _ c.in-TurnedAway.is)
     (λ c. search rules)
     (λ c. search rules)
     (λ c.
-    let stored = c in
-    let written = stored in
-    let made = written in
-    let e = written.write_frame-written.ensures in
-    ends_served _ _ _ _ (told made.before.before) _ _ made.in-Served.is _ _ _ e.0 e.1.0 e.1.1 stored.if-written-ne0.false _ stored.store.ensures))
+    let e = c.write_frame-written.ensures in
+    ends_served _ _ _ _ (c.serve_parsed-served.ensures ∙ ap (served_in _) c.read_frame.ensures.0) _ _ c.in-Served.is _ _ _ e.0 e.1.0 e.1.1 c.if-written-ne0.false _ c.store.ensures))
