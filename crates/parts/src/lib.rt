@@ -1,5 +1,7 @@
 // Internal to `steps`: the parts of a floor that one step reads and stores, and the step on these alone, by value. The loop of `steps`
 // is the one place that reads them out of a floor and stores them into it, so that no whole floor is moved for a step.
+#![tactic(auto)]
+
 ghost use Rattle.std.specs.Prelude.{◌≡◌};
 
 use attempts::{Row, Station};

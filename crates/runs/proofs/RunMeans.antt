@@ -1,11 +1,10 @@
 -- What a run says of its list: which records were accepted, what they left, and which was refused.
 use Prim.Native.Nat.{ℕ, zero, suc, ◌+◌, ◌<◌}
 use native.Mathlib.Omega.{arith}
-use mathlib.Core.Path.{◌≡◌, refl, sym, ap, subst, ◌∙◌}
+use mathlib.Core.Path.{◌≡◌, refl, sym, ap, ◌∙◌}
 use mathlib.Core.Bool.{Bool, true, false}
 use mathlib.Core.List.{List, [], ◌∷◌}
 use lib.ListN.{length}
-use Rattle.base.specs.Choice.{if◌then◌else◌}
 use Rattle.base.proofs.Cases.{clash, by_cases}
 use Rattle.base.proofs.Choices.{on_true, on_false, by_test}
 use Rattle.runs.specs.Runs.{state_at, says_at, stops_by, ran_by, ran_from}

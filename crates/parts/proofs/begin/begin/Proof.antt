@@ -14,4 +14,4 @@ begin_spec =
     (λ c. omega arith)
     (λ c. omega arith)
     (λ c κs. search rules)
-    (λ c. rw (c.larger.ensures, c.before.used_after.ensures, c.before.before.new_row.ensures)))
+    (λ c. rw (c.larger-highest.ensures, c.used_after-used.ensures, c.new_row-row.ensures)))

@@ -13,26 +13,26 @@ use Rattle.parts.proofs.deliver.deliver.Tie as tie
 
 -- where the row is put together again
 abbrev Heard : Type 0
-Heard = tie.After-with-requests
+Heard = tie.After-with_requests-w
 
 abbrev start : Heard → tie.Start
 start d = d.before.before.before.before.before
 
-is : (d : Heard) → delivered_by (start d).args.x (start d).args.p (start d).args.a d.before.received.result d.with_requests.result
+is : (d : Heard) → delivered_by (start d).args.x (start d).args.p (start d).args.a d.received-h.result d.with_requests-w.result
     ≡ delivered (start d).args.x (start d).args.p (start d).args.a (start d).args.b
 is d =
-    delivered_is (start d).args.x (start d).args.p (start d).args.a (start d).args.b d.before.before.requests_of.ensures
-    (chosen _ (lt-ltb _ _ (start d).requires) d.before.received.ensures) d.with_requests.ensures
+    delivered_is (start d).args.x (start d).args.p (start d).args.a (start d).args.b d.requests_of-asked.ensures
+    (chosen _ (lt-ltb _ _ (start d).requires) d.received-h.ensures) d.with_requests-w.ensures
 
 -- where the verdict is known, and it is v
-abbrev found : tie.After-verdict-of → Heard
+abbrev found : tie.After-verdict_of-verdict → Heard
 found d = d.before.before.before
 
-came : (d : tie.After-verdict-of) (v : Verdict) {y : Changed} → d.verdict_of.result ≡ v
+came : (d : tie.After-verdict_of-verdict) (v : Verdict) {y : Changed} → d.verdict_of-verdict.result ≡ v
     → y ≡ heard_by (start (found d)).args.x (start (found d)).args.p (start (found d)).args.a (found d).with_requests.result v
     → y ≡ delivered (start (found d)).args.x (start (found d)).args.p (start (found d)).args.a (start (found d)).args.b
 came d v e h =
-    on_true _ (sym d.before.before.in_phase.ensures ∙ not-false _ d.before.if1.false) (heard_by _ _ _ _ (sym e ∙ d.verdict_of.ensures) h) ∙ is (found d)
+    on_true _ (sym d.in_phase.ensures ∙ not-false _ d.if-not-in_phase.false) (heard_by _ _ _ _ (sym e ∙ d.verdict_of-verdict.ensures) h) ∙ is (found d)
 
 pub deliver_spec : {M : Type 1} → statement M
 deliver_spec =
@@ -52,7 +52,7 @@ deliver_spec =
     (λ c κs. search rules)
     (λ c. search rules)
     (λ c κs. search rules)
-    (λ c. came c.before.before Open c.enum_told.given.1 refl)
-    (λ c. came c.before.before.before No c.before.enum-told2.given.1 (rw c.with_state.ensures))
-    (λ c. came c.before.before.before.before.before Yes c.before.before.before.enum-told3.given.1 (of_read _ _ c.before.enum-told4.given.1 c.read_ended.ensures))
-    (λ c. came c.before.before.before.before.before Yes c.before.before.before.enum-told3.given.1 (of_write _ _ c.before.enum-told5.given.1 c.decided.ensures)))
+    (λ c. came c.before.before Open c.in-Open.is refl)
+    (λ c. came c.before.before.before No c.in-No.is (rw c.with_state-station.ensures))
+    (λ c. came c.before.before.before.before.before Yes c.in-Yes.is (of_read _ _ c.in-Read.is c.read_ended.ensures))
+    (λ c. came c.before.before.before.before.before Yes c.in-Yes.is (of_write _ _ c.in-Write.is c.decided.ensures)))

@@ -11,14 +11,14 @@ deliver_refusal_spec =
     (tie.spec
     (λ c κs. search rules)
     (λ c κs. search rules)
-    (λ c. deliver_8 _ _ _ _ _ c.before.unknown.ensures c.if1.true)
-    (λ c. deliver_9 _ _ _ _ _ c.before.before.unknown.ensures c.before.if1.false (sym c.before.before.before.gone.ensures ∙ c.if2.true))
+    (λ c. deliver_8 _ _ _ _ _ c.unknown-unknown.ensures c.if-unknown.true)
+    (λ c. deliver_9 _ _ _ _ _ c.unknown-unknown.ensures c.if-unknown.false (sym c.gone-gone.ensures ∙ c.if-gone.true))
     (λ c κs. search rules)
     (λ c.
     let x = c.before.before.before in
-    deliver_14 _ _ _ _ _ x.before.unknown.ensures x.if1.false (sym x.before.before.gone.ensures ∙ c.before.before.if2.false) _ c.before.comes.ensures
+    deliver_14 _ _ _ _ _ x.unknown-unknown.ensures x.if-unknown.false (sym x.gone-gone.ensures ∙ c.if-gone.false) _ c.comes.ensures
     (search tests))
     (λ c.
-    let x = c.before.before.before in
-    deliver_0 _ _ _ _ _ x.before.unknown.ensures x.if1.false (sym x.before.before.gone.ensures ∙ c.before.before.if2.false) _ c.before.comes.ensures
+    let x = c in
+    deliver_0 _ _ _ _ _ x.unknown-unknown.ensures x.if-unknown.false (sym x.gone-gone.ensures ∙ c.if-gone.false) _ c.comes.ensures
     (search tests)))

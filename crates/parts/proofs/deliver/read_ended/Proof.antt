@@ -11,4 +11,4 @@ read_ended_spec =
     (λ c κs. search rules)
     (λ c κs. search rules)
     (λ c κs. search rules)
-    (λ c. rw (c.with_state.ensures, c.before.issue.ensures, c.before.before.revision_of.ensures)))
+    (λ c. rw (c.with_state-station.ensures, c.issue-row.ensures, c.revision_of-v.ensures)))

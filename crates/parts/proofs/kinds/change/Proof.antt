@@ -13,6 +13,6 @@ change_spec =
     (tie.spec
     (λ c. on_false _ (search tests) refl)
     (λ c κs. search rules)
-    (λ c. on_true _ (search tests) (rw (← c.before.refusal.ensures) (on_false _ (search tests) refl)))
-    (λ c κs. (c.before.before.if1.false, sym c.before.refusal.ensures ∙ c.if2.false))
-    (λ c. on_true _ (search tests) (rw (← c.before.before.refusal.ensures) (on_true _ (search tests) c.effect.ensures))))
+    (λ c. on_true _ (search tests) (rw (← c.refusal-k.ensures) (on_false _ (search tests) refl)))
+    (λ c κs. (c.if-x-gt9.false, sym c.refusal-k.ensures ∙ c.if-k-ne0.false))
+    (λ c. on_true _ (search tests) (rw (← c.refusal-k.ensures) (on_true _ (search tests) c.effect.ensures))))

@@ -7,4 +7,4 @@ leave_spec =
     tie.close
     (tie.spec
     (λ c κs. search rules)
-    (λ c. rw c.with_state.ensures))
+    (λ c. rw c.with_state-station.ensures))

@@ -5,4 +5,4 @@ use Rattle.parts.proofs.serve.serve.Tie as tie
 
 pub serve_spec : {M : Type 1} → statement M
 unfolding served
-serve_spec = tie.close (tie.spec (λ c κs. search rules) (λ c. rw c.before.before.serve.ensures))
+serve_spec = tie.close (tie.spec (λ c κs. search rules) (λ c. rw c.serve-done.ensures))

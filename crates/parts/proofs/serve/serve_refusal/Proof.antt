@@ -9,12 +9,12 @@ serve_refusal_spec =
     tie.close
     (tie.spec
     (λ c κs. search rules)
-    (λ c. serve_8 _ _ _ _ _ c.before.unknown.ensures c.if1.true)
-    (λ c. serve_13 _ _ _ _ _ c.before.before.unknown.ensures c.before.if1.false c.if2.true)
+    (λ c. serve_8 _ _ _ _ _ c.unknown-unknown.ensures c.if-unknown.true)
+    (λ c. serve_13 _ _ _ _ _ c.unknown-unknown.ensures c.if-unknown.false c.if-x.true)
     (λ c κs. search rules)
     (λ c.
     let x = c.before.before.before in
-    serve_14 _ _ _ _ _ x.before.unknown.ensures x.if1.false c.before.before.if2.false _ c.before.waits.ensures (search tests))
+    serve_14 _ _ _ _ _ x.unknown-unknown.ensures x.if-unknown.false c.if-x.false _ c.waits.ensures (search tests))
     (λ c.
-    let x = c.before.before.before in
-    serve_0 _ _ _ _ _ x.before.unknown.ensures x.if1.false c.before.before.if2.false _ c.before.waits.ensures (search tests)))
+    let x = c in
+    serve_0 _ _ _ _ _ x.unknown-unknown.ensures x.if-unknown.false c.if-x.false _ c.waits.ensures (search tests)))
