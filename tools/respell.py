@@ -5,7 +5,8 @@ usage: python3 tools/respell.py [TOP]
 
 Run once, on the files that /opt/rattle/port/port.py has turned. It goes over crates/*/specs, crates/*/proofs, crates/*/src and the edits of
 crates/*/must-fail. A name is turned where a file of specs/ or proofs/ declares it and the file at hand does not import it from a library
-of the toolchain. Names of functions, types and modules, of C, and strings stay.
+of the toolchain. Names of functions, types and modules, of C, and strings stay. The choice of crates/base/specs/Choice.antt becomes
+`when◌then◌else◌`: the toolchain's library has an `if◌then◌else◌` that binds otherwise, and `rt ci` keeps that name for it.
 """
 import collections
 import pathlib
@@ -18,12 +19,14 @@ WORD = r"[^\s(){}\[\],.;:λ→∀\"`|]+"
 LEMMAS = {
     "is-waiting", "row-at", "is-reading", "is-writing", "is-active", "is-gone", "is-busy", "row-heard", "department-at", "header-values",
     "departments-part", "is-on-the-way", "row-place", "new-floor", "write-issued", "heard-in", "told-from", "issued-row", "stopped-box",
-    "gone-station", "heard-row", "turned-back", "decided-in", "no-values", "written-size",
+    "gone-station", "heard-row", "turned-back", "decided-in", "no-values", "written-size", "asked-of", "heard-by", "outranked-read",
+    "row-asked", "row-served", "solo-number", "solo-value",
 }
 # The same, of names that port.py has turned: in these files alone.
 TURNED = {
     "all_yes": (r"crates/requests/(specs|proofs)/Claims\.antt", r"(?<![\w'.])all_yes(?= [:=] )", "all_yes_lem"),
     "all_said": (r"crates/solo/proofs/(Driven|Phases)\.antt", r"(?<![\w'.])all_said(?![\w'])", "all_said_lem"),
+    "new-row": (r"crates/solo/proofs/Decides\.antt", r"(?<![\w'-])new-row(?![\w'-])", "new_row_lem"),
     "read_answer": (r"crates/chain/proofs/Chain\.antt", r"(?<![\w'.])read_answer(?![\w'])", "read_answer_lem"),
 }
 
@@ -69,6 +72,12 @@ def words(text, kept, some):
     return re.sub(rf"(?<![\w'#·-]){word}(?![\w'·-])", turn, text)
 
 
+def chosen(text):
+    """The text with its choices under their own name."""
+    text = text.replace("if◌then◌else◌", "when◌then◌else◌")
+    return re.sub(r"(?<![\w'◌-])if(?= )", "when", text)
+
+
 def turned(line, kept, suffix):
     """A line with its names turned. In a comment a word with a dash is a name where it stands in backticks, and a string stays."""
     mark = "//" if suffix == ".rt" else "--"
@@ -81,6 +90,8 @@ def turned(line, kept, suffix):
         head = "".join(s if s.startswith('"') else words(s, kept, False) for s in re.split(r'("(?:[^"\\]|\\.)*")', head))
     else:
         head = words(head, kept, True)
+    if suffix == ".antt" or " then " in head or head.startswith("ghost use") or re.match(r"(old|new): +else if ", head):
+        head = chosen(head)
     return head + "".join(s if s.startswith('"') else words(s, kept, s.startswith("`")) for s in re.split(r"(`[^`]*`)", tail))
 
 

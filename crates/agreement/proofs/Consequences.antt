@@ -10,7 +10,7 @@ use mathlib.Core.List.{List, []}
 use lib.ListN.{length, get_or, get_or-eq_default}
 use borrow.Author.Tests.{lt-leb}
 use Rattle.suits.specs.declared.Suit.{Suit}
-use Rattle.base.specs.Choice.{if◌then◌else◌}
+use Rattle.base.specs.Choice.{when◌then◌else◌}
 use Rattle.base.proofs.Choices.{on_true, on_false}
 use Rattle.register.specs.declared.Department.{Department}
 use Rattle.floor.specs.Floors.{station_at, department_at}
@@ -50,7 +50,7 @@ use Rattle.agreement.proofs.Idle.{idle_holds}
 
 -- a record with no bytes is malformed
 no_bytes : command_of [] ≡ Malformed
-unfolding command_of if◌then◌else◌
+unfolding command_of when◌then◌else◌
 no_bytes = refl
 
 malformed : {f : Floor} {s : Stepped} → StepCase f Malformed s → is_refused s.outcome ≡ true

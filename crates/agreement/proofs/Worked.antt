@@ -12,7 +12,7 @@ use borrow.Author.Tests.{leb-true, eqb-true, not-true}
 use Rattle.suits.specs.Suits as suits
 use Rattle.suits.specs.Suits.{FourBytes}
 use Rattle.suits.specs.declared.Suit.{Suit}
-use Rattle.base.specs.Choice.{if◌then◌else◌}
+use Rattle.base.specs.Choice.{when◌then◌else◌}
 use Rattle.base.specs.Numbers.{sizes_right, quorum}
 use Rattle.base.specs.Mask.{bit, set_bit, count_below}
 use Rattle.base.specs.Quorum.{count}
@@ -76,12 +76,12 @@ noted (said.Refused k) = 0
 
 -- attempt 0 at the step 0 and attempt 1 at the step 5
 unfoldable expected : ℕ → ℕ
-expected k = if eqb k 0 then 1 else if eqb k 5 then 2 else 0
+expected k = when eqb k 0 then 1 else when eqb k 5 then 2 else 0
 
 -- up to the step k
 unfoldable as_expected : ℕ → Bool
 as_expected zero = true
-as_expected (suc k) = if eqb (noted (said_at three example_i k)) (expected k) then as_expected k else false
+as_expected (suc k) = when eqb (noted (said_at three example_i k)) (expected k) then as_expected k else false
 
 -- What is computed: steps of the two lists, and of the floors behind them.
 record Computed : Type 0 where
@@ -131,7 +131,7 @@ record Computed : Type 0 where
   all : (three.n ≡ 3) × (three.m ≡ 2) × (count (λ b. true) 3 ≡ 3)
 
 computed : Computed
-unfolding state_at count as_expected expected if◌then◌else◌ sizes_right departments_wrong not_departments not_department department_from stations_told new_floor_of step_of apply_of play_of sound_of share_sound stations_below row_department command_of all_zero spared begin_refusal serve_refusal deliver_refusal stop_refusal return_refusal standing bit set_bit count_below ones ones_in at_quorum new_row next_row used_after free_in all_served still_served waits_at waiting_below outranks rmw_read rmw_write takes delivered_on better best_of revision_from revision_of issued still_yes all_yes read_verdict write_verdict
+unfolding state_at count as_expected expected when◌then◌else◌ sizes_right departments_wrong not_departments not_department department_from stations_told new_floor_of step_of apply_of play_of sound_of share_sound stations_below row_department command_of all_zero spared begin_refusal serve_refusal deliver_refusal stop_refusal return_refusal standing bit set_bit count_below ones ones_in at_quorum new_row next_row used_after free_in all_served still_served waits_at waiting_below outranks rmw_read rmw_write takes delivered_on better best_of revision_from revision_of issued still_yes all_yes read_verdict write_verdict
 computed = record {
   decided = refl;
   aborted = refl;
@@ -193,8 +193,8 @@ decides = let d = (consequences 3 2 (0 ∷ 0 ∷ []) example_i).station 13 (suit
 outranked : OutrankedAt (trace_of three example_i) 17
 outranked = ((demand3 3 2 (0 ∷ 0 ∷ []) example_i).safety Sails).abort 17 0 (sails_row 0 (omega arith)) computed.aborted
 
-outranked_read : OutrankedAt (trace_of three outranked_read) 4
-outranked_read = ((demand3 3 2 (0 ∷ 0 ∷ []) outranked_read).safety Sails).abort 4 0 (sails_row 0 (omega arith)) computed.told.1
+outranked_read_lem : OutrankedAt (trace_of three outranked_read) 4
+outranked_read_lem = ((demand3 3 2 (0 ∷ 0 ∷ []) outranked_read).safety Sails).abort 4 0 (sails_row 0 (omega arith)) computed.told.1
 
 -- both steps of `stops` stop a box below 2, and nothing else was said
 only_stops : (k : ℕ) (o : Outcome) → k < 2 → said_at five stops k ≡ o → (b : ℕ) × (b < 2) × (o ≡ said.Stopped b)
@@ -360,7 +360,7 @@ worked = record {
   served = rank_17;
   outranked = outranked;
   told = computed.told;
-  outranked_read = outranked_read;
+  outranked_read_lem = outranked_read_lem;
   free = (given_back 1 1 (0 ∷ []) single).free 0 5 (in_sails (floor_at one single 5) computed.freed.0) computed.freed.1;
   not_free = λ x. clash ((given_back 1 1 (0 ∷ []) single).free_holds 0 4 x).1 computed.unfreed;
   used_up = used_up;

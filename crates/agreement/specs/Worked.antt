@@ -108,7 +108,7 @@ pub record Worked : Type 0 where
   pub outranked : OutrankedAt (trace_of three example_i) 17
   -- wish 2: attempt 0 aborts at its first read answer, and before that a rank above its own was served
   pub told : (command_at outranked_read 4 ≡ Deliver Read 0 0) × (said_at three outranked_read 4 ≡ said.Aborted 0)
-  pub outranked_read : OutrankedAt (trace_of three outranked_read) 4
+  pub outranked_read_lem : OutrankedAt (trace_of three outranked_read) 4
   -- wish 5: behind its decision the row of attempt 0 is free, and before it is not, though all its requests are served
   pub free : FreeAt (trace_of one single) 0 5
   pub not_free : ¬ FreeAt (trace_of one single) 0 4

@@ -9,7 +9,7 @@ use mathlib.Core.List.{List}
 use lib.Dec.{ltb}
 use lib.ListN.{get_or}
 use borrow.Author.Tests.{ltb-true, ltb-false, eq-eqb, ne_eqb}
-use Rattle.base.specs.Choice.{if◌then◌else◌}
+use Rattle.base.specs.Choice.{when◌then◌else◌}
 use Rattle.base.proofs.Choices.{on_true, on_false, by_test}
 use Rattle.base.specs.Mask.{count_below}
 use Rattle.base.proofs.MaskLaws.{bit_zero, count_agree, count_zero}
@@ -32,7 +32,7 @@ module _ (l : List Answer) (m : Requests) where
   rank c = (get_or l c answer0).rank
 
   one_more : (k : ℕ) (h : Bool) → heard_from m k ≡ h → (x : Best) → Found l m k x → Found l m (suc k) (better x h (get_or l k answer0))
-  unfolding better if◌then◌else◌
+  unfolding better when◌then◌else◌
   one_more k false e _ (nothing z) = nothing (λ c h. elim (up_to h) [ inl p ↦ ap (heard_from m) p ∙ e | inr p ↦ z c p ])
   one_more k false e _ (highest {b} h i z y) = highest {b = b} (omega arith) i (λ c q n. elim (up_to q) [
     | inl p ↦ clash n (ap (heard_from m) p ∙ e)

@@ -12,7 +12,7 @@ use lib.Seq.{set_out}
 use borrow.Author.Tests.{ltb-true}
 use mir.Val.{Val}
 use denote.Laws.{Is}
-use Rattle.base.specs.Choice.{if◌then◌else◌}
+use Rattle.base.specs.Choice.{when◌then◌else◌}
 use Rattle.base.proofs.Cases.{clash}
 use Rattle.base.proofs.Choices.{by_test}
 use Rattle.register.specs.Register.{holds_nothing}
@@ -70,4 +70,4 @@ module _ (w : Row) (vs : List Val) (g : Is the_row w vs) where
   pub revision_past : (n : ℕ) → 9 ≤ n → revision_of w 9 ≡ revision_of w n
   unfolding revision_of revision_from
   revision_past n h =
-      ap (λ (a : Answer). if holds_nothing a.rank then w.offer else a.value) (sym (has_past w.answers w.read nine_answers n h).0)
+      ap (λ (a : Answer). when holds_nothing a.rank then w.offer else a.value) (sym (has_past w.answers w.read nine_answers n h).0)

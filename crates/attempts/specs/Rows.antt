@@ -1,6 +1,6 @@
 -- The row of an attempt: Figure 4's gathering of answers, and the choice of Figure 1.
 use Rattle.std.specs.Prelude.{ℕ, zero, suc, ◌+◌, List, [], Bool, true, false, get_or, set, replicate, ltb}
-use Rattle.base.specs.Choice.{if◌then◌else◌}
+use Rattle.base.specs.Choice.{when◌then◌else◌}
 use Rattle.base.specs.Numbers.{rank_of}
 use Rattle.suits.specs.Suits.{suit0}
 use Rattle.suits.specs.declared.Suit.{Suit}
@@ -30,7 +30,7 @@ unused_row = record { station = 0; rank = 0; offer = suit0; written = suit0; rea
 -- Wish 6 of document 02: "Sails own rows 0 to 63 and canvas 64 to 127". The department that owns the row a, and the first row of a
 -- department; a department has 64 rows from there on.
 unfoldable pub row_department : (a : ℕ) → Department
-row_department a = if ltb a 64 then Sails else Canvas
+row_department a = when ltb a 64 then Sails else Canvas
 
 abbrev pub first_row : (department : Department) → ℕ
 first_row department = of_department department 0 64
@@ -104,8 +104,8 @@ best_from answer = record { found = true; rank = answer.rank; value = answer.val
 -- one more answer, if it was received: a higher write rank is better, of equals the one found before stays
 unfoldable pub better : (x : Best) (received : Bool) (answer : Answer) → Best
 better x received answer =
-    if received then
-    (if x.found then (if ltb x.rank answer.rank then best_from answer else x) else best_from answer)
+    when received then
+    (when x.found then (when ltb x.rank answer.rank then best_from answer else x) else best_from answer)
     else x
 
 -- "the answer with the highest write rank among the q, of equals the lowest-numbered box's", among the first k boxes heard
@@ -115,18 +115,18 @@ best_of answers q (suc k) = better (best_of answers q k) (heard_from q k) (get_o
 
 -- "If that answer holds nothing, it writes its own offer, otherwise that answer's value", which may be revision 0 (wish 7).
 unfoldable pub revision_from : (x : Best) (offer : Suit) → Suit
-revision_from x offer = if holds_nothing x.rank then offer else x.value
+revision_from x offer = when holds_nothing x.rank then offer else x.value
 
 unfoldable pub revision_of : (w : Row) (n : ℕ) → Suit
 revision_of w n = revision_from (best_of w.answers w.read n) w.offer
 
 -- Wish 5 of document 02: the read or the write of the row waits at the box.
 unfoldable pub waits_at : (w : Row) (box : ℕ) → Bool
-waits_at w box = if is_waiting (standing_of w.read box) then true else is_waiting (standing_of w.write box)
+waits_at w box = when is_waiting (standing_of w.read box) then true else is_waiting (standing_of w.write box)
 
 -- how many rows are in use once one was begun: one more, up to 64, from where on a row is given back
 unfoldable pub used_after : (used : ℕ) → ℕ
-used_after used = if ltb used 64 then used + 1 else used
+used_after used = when ltb used 64 then used + 1 else used
 
 -- "The write carries the attempt's own rank, waits at every box": the row with its write issued, none of it answered
 unfoldable pub issued : (w : Row) (revision : Suit) (n : ℕ) → Row

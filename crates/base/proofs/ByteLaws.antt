@@ -9,7 +9,7 @@ use lib.Bits.{bit_and, and_le_r}
 use lib.Dec.{leb}
 use lib.ListN.{length, get_or, take, drop, get_or-eq_default}
 use lib.Seq.{drop-cons, length-sets, sets-eq}
-use Rattle.base.specs.Choice.{if◌then◌else◌}
+use Rattle.base.specs.Choice.{when◌then◌else◌}
 use Rattle.base.specs.Bytes.{Bytes, word16, word32, bytes16, bytes32, word_at, with_word}
 use Rattle.base.proofs.Choices.{chosen}
 
@@ -72,7 +72,7 @@ unfolding with_word
 with_word_length s at x h = ap length (sym (sets-eq (bytes32 x) s at h)) ∙ length-sets s at (bytes32 x)
 
 -- a number that a list has room for is stored
-pub word_stored : (s s' : List ℕ) (at x : ℕ) → at + 4 ≤ length s → s' ≡ (if leb (at + 4) (length s) then with_word s at x else s)
+pub word_stored : (s s' : List ℕ) (at x : ℕ) → at + 4 ≤ length s → s' ≡ (when leb (at + 4) (length s) then with_word s at x else s)
     → (s' ≡ with_word s at x) × (length s' ≡ length s)
 word_stored s s' at x h e = let g = chosen _ (le-leb _ _ h) e in (g, ap length g ∙ with_word_length s at x h)
 

@@ -1,7 +1,7 @@
 -- Document 01, "big-endian": the bytes that a number is written in, the highest first. A file's size and a round have two; a revision
 -- and the numbers of a box record have four.
 use Rattle.std.specs.Prelude.{ℕ, ◌+◌, ◌*◌, ◌/◌, ◌%◌, ◌<◌, List, [], ◌∷◌, ◌++◌, leb, length, get_or, take, drop}
-use Rattle.base.specs.Choice.{if◌then◌else◌}
+use Rattle.base.specs.Choice.{when◌then◌else◌}
 
 -- a list of bytes: what a slice of `u8` holds
 abbrev pub Bytes : (s : List ℕ) → Type 0
@@ -32,4 +32,4 @@ with_word s at x = take at s ++ bytes32 x ++ drop (at + 4) s
 
 -- the list with other bytes from a place on, all else as it was; past its end nothing is put
 unfoldable pub bytes_put : (s : List ℕ) (at : ℕ) (bytes : List ℕ) → List ℕ
-bytes_put s at bytes = if leb (at + length bytes) (length s) then take at s ++ bytes ++ drop (at + length bytes) s else s
+bytes_put s at bytes = when leb (at + length bytes) (length s) then take at s ++ bytes ++ drop (at + length bytes) s else s

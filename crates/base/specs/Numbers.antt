@@ -1,14 +1,14 @@
 -- Document 01, "The floor": how many boxes and stations a floor may have, how many boxes make a quorum, and what a rank is.
 use Rattle.std.specs.Prelude.{ℕ, ◌+◌, ◌*◌, ◌/◌, Bool, true, false, ltb}
-use Rattle.base.specs.Choice.{if◌then◌else◌}
+use Rattle.base.specs.Choice.{when◌then◌else◌}
 
 -- "A floor has n boxes (1 to 9, numbered from 0) and m stations (1 to 16, numbered from 0)"; refusal 3 where this fails.
 unfoldable pub sizes_right : (n m : ℕ) → Bool
 sizes_right n m =
-    if ltb n 1 then false
-    else if ltb 9 n then false
-    else if ltb m 1 then false
-    else if ltb 16 m then false
+    when ltb n 1 then false
+    else when ltb 9 n then false
+    else when ltb m 1 then false
+    else when ltb 16 m then false
     else true
 
 -- "q = n / 2 rounded down, plus 1": the size of a quorum, a majority of all boxes.

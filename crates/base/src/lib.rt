@@ -3,7 +3,7 @@
 #![tactic(auto)]
 
 ghost use Rattle.std.specs.Prelude.{◌≡◌, ◌+◌, leb, length, get_or};
-ghost use Rattle.base.specs.Choice.{if◌then◌else◌};
+ghost use Rattle.base.specs.Choice.{when◌then◌else◌};
 ghost use Rattle.base.specs.Numbers.{sizes_right, quorum};
 ghost use Rattle.base.specs.Departments.{not_departments, departments_wrong};
 ghost use Rattle.base.specs.Bytes.{word16, word32, bytes16, bytes32, word_at, with_word, bytes_put};
@@ -59,7 +59,7 @@ pub fn byte_at(s: &[u8], at: usize) -> u8
 
 // The number whose four bytes stand from a place on. Past the end nothing is read: 0.
 pub fn get_u32(s: &[u8], at: usize) -> u32
-    ensures { result ≡ (if leb (at + 4) (length s.now) then word_at s.now at else 0) }
+    ensures { result ≡ (when leb (at + 4) (length s.now) then word_at s.now at else 0) }
 {
     if s.len() < 4 {
         return 0;
@@ -72,7 +72,7 @@ pub fn get_u32(s: &[u8], at: usize) -> u32
 
 // Stores a number's four bytes from a place on. Past the end nothing is stored.
 pub fn put_u32(s: &mut [u8], at: usize, x: u32)
-    ensures { s.new ≡ (if leb (at + 4) (length s.old) then with_word s.old at x else s.old) }
+    ensures { s.new ≡ (when leb (at + 4) (length s.old) then with_word s.old at x else s.old) }
 {
     if s.len() < 4 {
         return;

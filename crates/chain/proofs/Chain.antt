@@ -10,7 +10,7 @@ use lib.Dec.{ltb}
 use lib.ListN.{length, get_or, drop}
 use lib.Seq.{get_or-set_same}
 use Rattle.suits.specs.declared.Suit.{Suit}
-use Rattle.base.specs.Choice.{if◌then◌else◌}
+use Rattle.base.specs.Choice.{when◌then◌else◌}
 use Rattle.base.specs.Bytes.{Bytes}
 use Rattle.base.specs.Records.{AllRecords}
 use Rattle.base.proofs.Choices.{on_true, on_false}
@@ -74,7 +74,7 @@ module _ (x : Register) (r : ℕ) (n : ¬ (r ≡ 0)) where
     same_read = ap (λ (y : Register). rmw_read y r) (decode_encode x)
 
     record Asked : Type 0 where
-      returns : read_answer (encode x) r p ≡ (if is_held got.answer then 0 else 100)
+      returns : read_answer (encode x) r p ≡ (when is_held got.answer then 0 else 100)
       changes : record_after_read (encode x) r p ≡ encode got.register
 
     asked : (t : Bool) → is_held got.answer ≡ t → Asked
@@ -104,7 +104,7 @@ module _ (x : Register) (r : ℕ) (n : ¬ (r ≡ 0)) where
     same = ap (λ (y : Register). rmw_write y r v) (decode_encode x)
 
     record Called : Type 0 where
-      returns : write_answer (encode x) r v.r0 ≡ (if done.taken then 0 else 100)
+      returns : write_answer (encode x) r v.r0 ≡ (when done.taken then 0 else 100)
       changes : record_after_write (encode x) r v.r0 ≡ encode done.register
 
     called : (t : Bool) → done.taken ≡ t → Called
@@ -211,14 +211,14 @@ module _ (f : Floor) (l : List (List ℕ)) (new : New f) (z : Sound f) (a i : �
   call Read q = λ reply h.
       let c = asked held w.rank not_zero reply h _ refl in
       record {
-        returns = c.returns ∙ ap (λ (u : Bool). if u then 0 else 100) (sym (read_ok q));
+        returns = c.returns ∙ ap (λ (u : Bool). when u then 0 else 100) (sym (read_ok q));
         changes = c.changes ∙ ap encode (sym (read_register q));
         answers = read_answers held w.rank not_zero reply h ∙ ap (λ (v : Answer). reply_of v.rank v.value.r0) (sym (read_answer_lem q));
       }
   call Write q =
       let c = called held w.rank not_zero w.written _ refl in
       record {
-        returns = c.returns ∙ ap (λ (t : Bool). if t then 0 else 100) (sym (write_ok q));
+        returns = c.returns ∙ ap (λ (t : Bool). when t then 0 else 100) (sym (write_ok q));
         changes = c.changes ∙ ap encode (sym (write_register q));
       }
 

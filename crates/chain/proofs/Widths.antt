@@ -44,7 +44,7 @@ use Rattle.floor.specs.Step.{step_of}
 use Rattle.floor.specs.Runs.{floor_at}
 use Rattle.floor.specs.Moves.{BoxMove, box_kept, box_serves, box_stops, box_returns}
 use Rattle.floor.specs.declared.Floor.{Floor}
-use Rattle.floor.proofs.Moves.{apply_box, RowMove, row_kept, row_begins, row_served, row_heard_lem, row_issues, apply_row}
+use Rattle.floor.proofs.Moves.{apply_box, RowMove, row_kept, row_begins, row_served_lem, row_heard_lem, row_issues, apply_row}
 
 pub record RowFits (w : Row) : Type 0 where
   pub rank : w.rank < 2 ^ 32
@@ -98,7 +98,7 @@ module _ {f : Floor} (h : FloorFits f) {c : Command} (k : Fielded c) (j : ℕ) w
   row_fits (row_begins e s _) =
       let q = subst Fielded e k in
       record { rank = omega (arith, q.0, q.1); offer = q.2; written = omega arith; answers = λ i. rw (get_d_same 9 i answer0) (omega arith, omega arith) }
-  row_fits (row_served {p} {b} e d) = served_fits p b (h.rows j) (h.boxes (row_department j) b)
+  row_fits (row_served_lem {p} {b} e d) = served_fits p b (h.rows j) (h.boxes (row_department j) b)
   row_fits (row_heard_lem {p} {b} e d _) = heard_fits p b (h.rows j)
   row_fits (row_issues {b} {v} e d r q u t) =
       let w = heard_fits Read b (h.rows j) in

@@ -2,7 +2,7 @@
 -- reaches, an accepted serve changes the box's record of the attempt's department, written as its 12 bytes, as the C calls change them, and its answer is theirs. The
 -- proof is `chain` in proofs/Chain.
 use Rattle.std.specs.Prelude.{ℕ, suc, ◌≤◌, ◌≡◌, false, List, ◌++◌, length, get_or, drop}
-use Rattle.base.specs.Choice.{if◌then◌else◌}
+use Rattle.base.specs.Choice.{when◌then◌else◌}
 use Rattle.base.specs.Bytes.{Bytes}
 use Rattle.base.specs.Records.{AllRecords}
 use Rattle.frames.specs.Claims.{ReadAs}
@@ -39,14 +39,14 @@ module _ (f : Floor) (l : List (List ℕ)) where
   -- A read with the rank r, of any reply of 8 bytes: the call leaves the box's next record, fills the reply with the numbers of the answer
   -- that is then on the way, and returns 0, or 100 where that answer is "outranked".
   pub record ReadInC (r a b i : ℕ) (reply : List ℕ) : Type 0 where
-    pub returns : read_answer (bytes_at a b i) r reply ≡ (if (slot_at (row_at (floor_at f l (suc i)) a).read b).ok then 0 else 100)
+    pub returns : read_answer (bytes_at a b i) r reply ≡ (when (slot_at (row_at (floor_at f l (suc i)) a).read b).ok then 0 else 100)
     pub changes : record_after_read (bytes_at a b i) r reply ≡ bytes_at a b (suc i)
     pub answers : reply_after_read (bytes_at a b i) r reply ≡ reply_of (answer_at a b (suc i)).rank (answer_at a b (suc i)).value.r0
 
   -- A write with the rank r of the attempt's revision: the call leaves the box's next record, and returns 0 where the answer on the way
   -- says "taken" and 100 where it does not.
   pub record WriteInC (r a b i : ℕ) : Type 0 where
-    pub returns : write_answer (bytes_at a b i) r (row_at (floor_at f l i) a).written.r0 ≡ (if (slot_at (row_at (floor_at f l (suc i)) a).write b).ok then 0 else 100)
+    pub returns : write_answer (bytes_at a b i) r (row_at (floor_at f l i) a).written.r0 ≡ (when (slot_at (row_at (floor_at f l (suc i)) a).write b).ok then 0 else 100)
     pub changes : record_after_write (bytes_at a b i) r (row_at (floor_at f l i) a).written.r0 ≡ bytes_at a b (suc i)
 
   abbrev pub InC : (phase : Phase) (r a b i : ℕ) → Type 0
@@ -59,8 +59,8 @@ module _ (f : Floor) (l : List (List ℕ)) where
   request_at Write r a i = WriteRequest r (row_at (floor_at f l i) a).written.r0
 
   abbrev pub answered_at : (phase : Phase) (a b i : ℕ) → Message
-  answered_at Read a b i = if (slot_at (row_at (floor_at f l i) a).read b).ok then ReadAnswer (answer_at a b i).rank (answer_at a b i).value.r0 else Outranked
-  answered_at Write a b i = if (slot_at (row_at (floor_at f l i) a).write b).ok then Taken else NotTaken
+  answered_at Read a b i = when (slot_at (row_at (floor_at f l i) a).read b).ok then ReadAnswer (answer_at a b i).rank (answer_at a b i).value.r0 else Outranked
+  answered_at Write a b i = when (slot_at (row_at (floor_at f l i) a).write b).ok then Taken else NotTaken
 
   -- The request's frame handed to `box_serve`, with anything behind it: the call leaves the box's next record, and in the buffer a frame that
   -- is read as the answer; behind that stands what stood there.

@@ -4,7 +4,7 @@ use native.Mathlib.Omega.{arith}
 use mathlib.Core.Path.{◌≡◌, refl}
 use mathlib.Core.List.{List, ◌∷◌}
 use lib.ListN.{length}
-use Rattle.base.specs.Choice.{if◌then◌else◌}
+use Rattle.base.specs.Choice.{when◌then◌else◌}
 use Rattle.base.specs.Bytes.{Bytes}
 use Rattle.base.proofs.ByteLaws.{bytes_below, word16_of_bytes, word32_of_bytes}
 use Rattle.base.proofs.Choices.{by_test}
@@ -15,7 +15,7 @@ use Rattle.commands.specs.declared.Command.{Command}
 use Rattle.commands.specs.declared.Command.TheVariants.{Begin, Serve, Deliver, Stop, Leave, Return, Malformed}
 
 pub decode_encode : (c : Command) → command_of (encode_of c) ≡ c
-unfolding command_of spared all_zero if◌then◌else◌
+unfolding command_of spared all_zero when◌then◌else◌
 decode_encode (Begin s round v) = rw (word16_of_bytes round, word32_of_bytes v.r0)
 decode_encode (Serve Read a b) = refl
 decode_encode (Serve Write a b) = refl
@@ -28,7 +28,7 @@ decode_encode Malformed = refl
 
 -- kind 6 is read as kind 8
 pub six_as_eight : (rest : List ℕ) → command_of (6 ∷ rest) ≡ command_of (8 ∷ rest)
-unfolding command_of if◌then◌else◌
+unfolding command_of when◌then◌else◌
 six_as_eight rest = refl
 
 -- a record has 8 bytes

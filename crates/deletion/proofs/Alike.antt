@@ -9,7 +9,7 @@ use mathlib.Core.List.{List}
 use lib.ListN.{length, get_or, set, length-set, get_or-eq_default}
 use lib.Seq.{get_or-set_same, get_or-set_other}
 use Rattle.suits.specs.declared.Suit.{Suit}
-use Rattle.base.specs.Choice.{if◌then◌else◌}
+use Rattle.base.specs.Choice.{when◌then◌else◌}
 use Rattle.register.specs.Register.{box0, register_of}
 use Rattle.register.specs.declared.Department.{Department}
 use Rattle.register.specs.declared.Register.{Register}
@@ -197,8 +197,8 @@ pub record AlikeStep (d : Department) (x y : Stepped) : Type 0 where
   pub floor : Alike d x.floor y.floor
 
 -- two choices by one test
-by_choice : (d : Department) (t u : Bool) {x x' y y' : Stepped} → u ≡ t → AlikeStep d x y → AlikeStep d x' y' → AlikeStep d (if t then x else x') (if u then y else y')
-unfolding if◌then◌else◌
+by_choice : (d : Department) (t u : Bool) {x x' y y' : Stepped} → u ≡ t → AlikeStep d x y → AlikeStep d x' y' → AlikeStep d (when t then x else x') (when u then y else y')
+unfolding when◌then◌else◌
 by_choice d true u e p q = rw e p
 by_choice d false u e p q = rw e q
 

@@ -1,7 +1,7 @@
 -- Document 02, wish 6: "Delete every step of one department from an accepted run: each step of the other is answered as before, with the same
 -- records." The proof is `deletion` in proofs/Deletion.
 use Rattle.std.specs.Prelude.{ℕ, ◌≤◌, ◌<◌, ◌≡◌, Bool, true, false, List, [], ◌∷◌, length, get_or}
-use Rattle.base.specs.Choice.{if◌then◌else◌}
+use Rattle.base.specs.Choice.{when◌then◌else◌}
 use Rattle.base.specs.Quorum.{count}
 use Rattle.register.specs.Register.{is_of}
 use Rattle.register.specs.declared.Department.{Department}
@@ -26,7 +26,7 @@ keeps f d c = is_kept d (department_of f c)
 -- the list without the others
 unfoldable pub kept_of : (f : Floor) (d : Department) (l : List (List ℕ)) → List (List ℕ)
 kept_of f d [] = []
-kept_of f d (r ∷ l) = if keeps f d (command_of r) then r ∷ kept_of f d l else kept_of f d l
+kept_of f d (r ∷ l) = when keeps f d (command_of r) then r ∷ kept_of f d l else kept_of f d l
 
 -- how many of the first i steps are kept: the place of the step at i, if it is kept
 abbrev pub place_of : (f : Floor) (d : Department) (l : List (List ℕ)) (i : ℕ) → ℕ

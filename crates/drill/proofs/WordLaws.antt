@@ -6,13 +6,13 @@ use mathlib.Core.List.{List}
 use lib.ListN.{get_or}
 use Rattle.suits.specs.Suits.{suit0}
 use Rattle.suits.specs.declared.Suit.{Suit}
-use Rattle.base.specs.Choice.{if◌then◌else◌}
+use Rattle.base.specs.Choice.{when◌then◌else◌}
 use Rattle.attempts.specs.declared.Decision.TheVariants.{Revision}
 use Rattle.drill.specs.Report.{ascii, digits_of, decision_word}
 use Rattle.drill.proofs.Decimals.{all_digits}
 
 pub withdrawal_printed : decision_word (Revision suit0) ≡ ascii "0"
-unfolding ascii digits_of if◌then◌else◌
+unfolding ascii digits_of when◌then◌else◌
 withdrawal_printed = refl
 
 -- "none" begins with no digit

@@ -2,7 +2,7 @@
 use Rattle.std.specs.Prelude.{ℕ, zero, suc, ◌+◌, ◌/◌, ◌%◌, List, [], ◌∷◌, ◌++◌, eqb, ltb}
 use Prim.Native.String as text
 use Prim.Native.Char.{code}
-use Rattle.base.specs.Choice.{if◌then◌else◌}
+use Rattle.base.specs.Choice.{when◌then◌else◌}
 use Rattle.attempts.specs.declared.State.{State}
 use Rattle.attempts.specs.declared.State.TheVariants as state
 use Rattle.attempts.specs.declared.Decision.{Decision}
@@ -22,7 +22,7 @@ ascii (text.◌∷◌ c s) = code c ∷ ascii s
 -- a number in decimal, the most significant digit first, with at most k digits
 unfoldable pub digits_of : (k n : ℕ) → List ℕ
 digits_of zero n = []
-digits_of (suc k) n = if ltb n 10 then (48 + n) ∷ [] else digits_of k (n / 10) ++ ((48 + n % 10) ∷ [])
+digits_of (suc k) n = when ltb n 10 then (48 + n) ∷ [] else digits_of k (n / 10) ++ ((48 + n % 10) ∷ [])
 
 -- a number of 64 bits has at most 20
 abbrev pub decimal_of : (n : ℕ) → List ℕ
@@ -67,4 +67,4 @@ lines_of label p = panel_line label p.floor.n p.floor.m ++ (station_lines p.floo
 -- "After a refusal that comes before any record is played it prints only the `end` line, with 0 steps; a refused record does not count as
 -- that."
 unfoldable pub report_of : (file : List ℕ) → List ℕ
-report_of file = if eqb (file_refusal file) 0 then lines_of (label_of file) (played_of file) else end_line 0 (file_refusal file)
+report_of file = when eqb (file_refusal file) 0 then lines_of (label_of file) (played_of file) else end_line 0 (file_refusal file)

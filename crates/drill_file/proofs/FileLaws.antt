@@ -10,7 +10,7 @@ use lib.Dec.{eqb}
 use lib.ListN.{length, get_or, take, drop, drop_of_length-le}
 use lib.Seq.{drop-cons}
 use denote.Ref.{Bor}
-use Rattle.base.specs.Choice.{if◌then◌else◌}
+use Rattle.base.specs.Choice.{when◌then◌else◌}
 use Rattle.base.specs.Departments.{not_departments}
 use Rattle.base.specs.Part.{IsPart}
 use Rattle.base.proofs.Choices.{on_true, on_false, by_test}
@@ -54,11 +54,11 @@ module _ (s : List ℕ) (t : wrong_length (label_length s) ≡ false) (e : ℕ) 
 
 -- how many department bytes a file has by its version, and that these are at most m
 pub due_one : (m : ℕ) → departments_due 1 m ≡ 0
-unfolding departments_due if◌then◌else◌
+unfolding departments_due when◌then◌else◌
 due_one m = refl
 
 pub due_two : (m : ℕ) → departments_due 2 m ≡ m
-unfolding departments_due if◌then◌else◌
+unfolding departments_due when◌then◌else◌
 due_two m = refl
 
 pub due_most : (version m : ℕ) → departments_due version m ≤ m
@@ -109,15 +109,15 @@ pub departments_within : (s : List ℕ) (a e : ℕ) → a ≡ label_end s → e 
 departments_within s a e p q z = let w = (accepted_passed s z).departments.within in (omega arith, omega arith)
 
 -- the bytes from a on of an accepted file, and none of a refused one
-part_bytes : (t : Bool) (s : List ℕ) (a k : ℕ) → take (if t then k else 0) (drop (if t then a else 0) s) ≡ (if t then take k (drop a s) else [])
-unfolding if◌then◌else◌
+part_bytes : (t : Bool) (s : List ℕ) (a k : ℕ) → take (when t then k else 0) (drop (when t then a else 0) s) ≡ (when t then take k (drop a s) else [])
+unfolding when◌then◌else◌
 part_bytes true s a k = refl
 part_bytes false s a k = refl
 
 -- so the part that starts at a and has k bytes is that
 module _ (y f : Bor (List ℕ)) (a k b j : ℕ) (q : a ≡ b) (r : k ≡ j) where
   part_lies : IsPart y f (if_accepted f.now a) (if_accepted f.now k)
-      → let bytes = if eqb (file_refusal f.now) 0 then take j (drop b f.now) else [] in
+      → let bytes = when eqb (file_refusal f.now) 0 then take j (drop b f.now) else [] in
       (y.now ≡ bytes) × IsPart y f (if_accepted f.now b) (length bytes)
   part_lies p =
       let same = p.bytes ∙ part_bytes (eqb (file_refusal f.now) 0) f.now a k in

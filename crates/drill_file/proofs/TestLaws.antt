@@ -7,7 +7,7 @@ use native.Mathlib.Omega.{arith}
 use borrow.Author.Tests.{ltb-false, eqb-true, not-false, le-ltb, eq-eqb}
 use lib.Dec.{eqb, ltb}
 use lib.ListN.{length, get_or}
-use Rattle.base.specs.Choice.{if◌then◌else◌}
+use Rattle.base.specs.Choice.{when◌then◌else◌}
 use Rattle.base.specs.Numbers.{sizes_right}
 use Rattle.base.proofs.Choices.{on_true, on_false, by_test, both_false, passed}
 use Rattle.base.proofs.SizeLaws.{sizes_mean, sizes_hold}
@@ -162,5 +162,5 @@ file_turned s =
     choose (wrong_records s) (λ e. gives_5 a b c d f (wrong_not (records_hold s) e))
     (λ e. accepts (record { sized = a; version = b; floored = c; labelled = d; departments = f; recorded = records_mean s e })))))))
   where
-    choose : (t : Bool) {x y : ℕ} → (t ≡ true → FileTurned s x) → (t ≡ false → FileTurned s y) → FileTurned s (if t then x else y)
+    choose : (t : Bool) {x y : ℕ} → (t ≡ true → FileTurned s x) → (t ≡ false → FileTurned s y) → FileTurned s (when t then x else y)
     choose t {x} {y} = by_test (FileTurned s) t x y

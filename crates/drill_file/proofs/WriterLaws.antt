@@ -10,7 +10,7 @@ use lib.Dec.{eqb, ltb}
 use lib.ListN.{length, get_or, drop, set, length-append}
 use lib.Seq.{take_all, sets, sets-eq, length-sets}
 use Rattle.base.specs.Bytes.{bytes16, bytes_put}
-use Rattle.base.specs.Choice.{if◌then◌else◌}
+use Rattle.base.specs.Choice.{when◌then◌else◌}
 use Rattle.base.specs.Numbers.{sizes_right}
 use Rattle.base.specs.Claims.{Sizes}
 use Rattle.base.specs.Records.{record_at, records_from, records_in}
@@ -171,7 +171,7 @@ module _ (room : ℕ) (p : DrillParts) where
 
   -- parts that a file may have are refused for a record of kind 6, and for want of room alone
   refused_late : PartsRight p → length p.run % 8 ≡ 0
-      → write_refusal room p ≡ (if has_kind 6 (records_in p.run) then 7 else if ltb room (length (file_from p)) then 18 else 0)
+      → write_refusal room p ≡ (when has_kind 6 (records_in p.run) then 7 else when ltb room (length (file_from p)) then 18 else 0)
   unfolding write_refusal
   refused_late f whole =
       let few = rw (records_length (length p.run / 8) p.run 0) at f.few in
@@ -184,7 +184,7 @@ module _ (room : ℕ) (p : DrillParts) where
   refused_kind f whole i h e = refused_late f whole ∙ sym (on_true _ (kind_holds 6 (records_in p.run) i h e) refl)
 
   pub refused_short : PartsRight p → length p.run % 8 ≡ 0 → WithoutKind6 (records_in p.run)
-      → write_refusal room p ≡ (if ltb room (length (file_from p)) then 18 else 0)
+      → write_refusal room p ≡ (when ltb room (length (file_from p)) then 18 else 0)
   refused_short f whole n = refused_late f whole ∙ sym (on_false _ (kinds_hold 6 (records_in p.run) n) refl)
 
   pub refused_none : Writable room p → write_refusal room p ≡ 0
@@ -203,7 +203,7 @@ module _ (room : ℕ) (p : DrillParts) where
       choose (ltb room (length (file_from p))) (λ e. gives_18 ((a, b, c), d, f) k (ltb-true room (length (file_from p)) e))
       (λ e. accepts ((a, b, c), d, f) k (ltb-false room (length (file_from p)) e))))))))
     where
-      choose : (t : Bool) {x y : ℕ} → (t ≡ true → WriteTurned room p x) → (t ≡ false → WriteTurned room p y) → WriteTurned room p (if t then x else y)
+      choose : (t : Bool) {x y : ℕ} → (t ≡ true → WriteTurned room p x) → (t ≡ false → WriteTurned room p y) → WriteTurned room p (when t then x else y)
       choose t {x} {y} = by_test (WriteTurned room p) t x y
 
   -- such parts are short

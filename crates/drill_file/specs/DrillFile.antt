@@ -1,7 +1,7 @@
 -- Document 01, "The drill file" and the refusals 1 to 5, with the departments of document 02, wish 6, and refusal 22. A file is the list of
 -- its bytes; past its end a byte reads 0.
 use Rattle.std.specs.Prelude.{ℕ, ◌+◌, ◌-◌, ◌/◌, ◌%◌, Bool, true, false, not, List, [], ◌∷◌, eqb, ltb, length, get_or, take, drop}
-use Rattle.base.specs.Choice.{if◌then◌else◌}
+use Rattle.base.specs.Choice.{when◌then◌else◌}
 use Rattle.base.specs.Numbers.{sizes_right}
 use Rattle.base.specs.Departments.{not_departments}
 use Rattle.base.specs.Bytes.{word16}
@@ -37,7 +37,7 @@ label_end s = 6 + label_length s
 -- Wish 6 of document 02: "Version 2 of the file has, after the label, one byte a station". How many a file has by its version and m: m
 -- in version 2, none in version 1
 unfoldable pub departments_due : (version m : ℕ) → ℕ
-departments_due version m = if eqb version 2 then m else 0
+departments_due version m = when eqb version 2 then m else 0
 
 abbrev pub department_count : (s : List ℕ) → ℕ
 department_count s = departments_due (version_of s) (stations_of s)
@@ -58,18 +58,18 @@ record_count s = after_header s / 8
 
 -- a byte that is not low to high, and whether a list has a wrong byte
 unfoldable pub outside : (low high b : ℕ) → Bool
-outside low high b = if ltb b low then true else ltb high b
+outside low high b = when ltb b low then true else ltb high b
 
 unfoldable pub any_byte : (wrong : ℕ → Bool) (bs : List ℕ) → Bool
 any_byte wrong [] = false
-any_byte wrong (b ∷ bs) = if wrong b then true else any_byte wrong bs
+any_byte wrong (b ∷ bs) = when wrong b then true else any_byte wrong bs
 
 -- 1. "The file has fewer than 6 or more than 32,806 bytes, or L is not its size less 2." Wish 6 of document 02: "refusal 1's limit is 32,822
 -- bytes"
 unfoldable pub wrong_size : (s : List ℕ) → Bool
 wrong_size s =
-    if ltb (length s) 6 then true
-    else if ltb 32822 (length s) then true
+    when ltb (length s) 6 then true
+    else when ltb 32822 (length s) then true
     else not (eqb (stated_size s) (length s - 2))
 
 -- 2. "The version byte is not 1." Wish 6 of document 02: "refusal 2 passes both", 1 and 2
@@ -88,22 +88,22 @@ unfoldable pub wrong_byte : (b : ℕ) → Bool
 wrong_byte b = outside 33 126 b
 
 unfoldable pub wrong_length : (k : ℕ) → Bool
-wrong_length k = if ltb k 1 then true else ltb 32 k
+wrong_length k = when ltb k 1 then true else ltb 32 k
 
 unfoldable pub wrong_label : (s : List ℕ) → Bool
 wrong_label s =
-    if wrong_length (label_length s) then true
-    else if ltb (length s) (label_end s) then true
+    when wrong_length (label_length s) then true
+    else when ltb (length s) (label_end s) then true
     else any_byte wrong_byte (label_part s)
 
 -- Wish 6 of document 02: "22, after 4, when a department byte is missing or not 0 or 1"
 unfoldable pub wrong_departments : (s : List ℕ) → Bool
-wrong_departments s = if ltb (length s) (records_start s) then true else not_departments (departments_part s)
+wrong_departments s = when ltb (length s) (records_start s) then true else not_departments (departments_part s)
 
 -- 5. "What follows the label is not whole records, or is more than 4,096 of them." By wish 6 of document 02 the departments of version 2
 -- are not among what follows. Of that many bytes:
 unfoldable pub wrong_run : (k : ℕ) → Bool
-wrong_run k = if eqb (k % 8) 0 then ltb 4096 (k / 8) else true
+wrong_run k = when eqb (k % 8) 0 then ltb 4096 (k / 8) else true
 
 unfoldable pub wrong_records : (s : List ℕ) → Bool
 wrong_records s = wrong_run (after_header s)
@@ -111,18 +111,18 @@ wrong_records s = wrong_run (after_header s)
 -- "The first that applies is given", by wish 6 of document 02 with 22 "after 4"; 0 where none does: the file is then accepted.
 unfoldable pub file_refusal : (s : List ℕ) → ℕ
 file_refusal s =
-    if wrong_size s then 1
-    else if wrong_version s then 2
-    else if wrong_floor s then 3
-    else if wrong_label s then 4
-    else if wrong_departments s then 22
-    else if wrong_records s then 5
+    when wrong_size s then 1
+    else when wrong_version s then 2
+    else when wrong_floor s then 3
+    else when wrong_label s then 4
+    else when wrong_departments s then 22
+    else when wrong_records s then 5
     else 0
 
 -- what the header's answer is: the refusal, or n, m, where the records start and how many there are
 unfoldable pub header_of : (s : List ℕ) → Header
 header_of s =
-    if eqb (file_refusal s) 0 then Accepted (boxes_of s) (stations_of s) (records_start s) (record_count s)
+    when eqb (file_refusal s) 0 then Accepted (boxes_of s) (stations_of s) (records_start s) (record_count s)
     else Refused (file_refusal s)
 
 -- "a definition gives this paper's number and values for each of its cases". The number: the refusal, 0 where the file is accepted
@@ -149,30 +149,30 @@ header_values (Accepted n m start count) = record { boxes = n; stations = m; sta
 -- those of a file
 unfoldable pub file_values : (s : List ℕ) → HeaderValues
 file_values s =
-    if eqb (file_refusal s) 0 then record { boxes = boxes_of s; stations = stations_of s; start = records_start s; count = record_count s }
+    when eqb (file_refusal s) 0 then record { boxes = boxes_of s; stations = stations_of s; start = records_start s; count = record_count s }
     else no_values
 
 -- a number of an accepted file, 0 of a refused one: where a part of the file starts, and how many bytes it has
 abbrev pub if_accepted : (s : List ℕ) (k : ℕ) → ℕ
-if_accepted s k = if eqb (file_refusal s) 0 then k else 0
+if_accepted s k = when eqb (file_refusal s) 0 then k else 0
 
 -- "The reader hands back the label as that part of the file"; "a file refused before its records are played gives an empty label"
 unfoldable pub label_of : (s : List ℕ) → List ℕ
-label_of s = if eqb (file_refusal s) 0 then label_part s else []
+label_of s = when eqb (file_refusal s) 0 then label_part s else []
 
 -- "with a contract on which part it is": at which byte of the file it starts, behind the label length. The empty label of a refused file
 -- lies at the file's start
 unfoldable pub label_start : (s : List ℕ) → ℕ
-label_start s = if eqb (file_refusal s) 0 then 6 else 0
+label_start s = when eqb (file_refusal s) 0 then 6 else 0
 
 -- Wish 6 of document 02: the department bytes of an accepted file, "one byte a station: 0 sails, 1 canvas". "Version 1 files are all sails":
 -- there it is the empty part. As with the label, so is that of a refused file
 unfoldable pub departments_of : (s : List ℕ) → List ℕ
-departments_of s = if eqb (file_refusal s) 0 then departments_part s else []
+departments_of s = when eqb (file_refusal s) 0 then departments_part s else []
 
 -- at which byte of the file they start, "after the label"; the empty part of a refused file lies at the file's start
 unfoldable pub departments_start : (s : List ℕ) → ℕ
-departments_start s = if eqb (file_refusal s) 0 then label_end s else 0
+departments_start s = when eqb (file_refusal s) 0 then label_end s else 0
 
 -- "then records of 8 bytes": those of an accepted file
 abbrev pub records_of : (s : List ℕ) → List (List ℕ)

@@ -1,7 +1,7 @@
 -- Document 02, wish 1: "from n, m, a label and a run of 8-byte records, a writer fills a lent buffer with the file and returns its size".
 -- Wish 6: "the writer, told the version, makes .. both".
 use Rattle.std.specs.Prelude.{ℕ, Bool, true, false, not, List, [], ◌∷◌, eqb, ltb, length, get_or}
-use Rattle.base.specs.Choice.{if◌then◌else◌}
+use Rattle.base.specs.Choice.{when◌then◌else◌}
 use Rattle.base.specs.Numbers.{sizes_right}
 use Rattle.base.specs.Departments.{departments_wrong}
 use Rattle.base.specs.Records.{records_in}
@@ -29,7 +29,7 @@ file_from p = file_of p.version p.boxes p.stations p.label p.departments (record
 
 -- 4, of a label by itself: its length is not 1 to 32, or a byte of it is not 33 to 126
 unfoldable pub wrong_text : (label : List ℕ) → Bool
-wrong_text label = if wrong_length (length label) then true else any_byte wrong_byte label
+wrong_text label = when wrong_length (length label) then true else any_byte wrong_byte label
 
 -- 22, of department bytes by themselves: "a department byte is missing or not 0 or 1", and "also for a department byte too many", as each is
 -- in version 1
@@ -39,19 +39,19 @@ wrong_given version m departments = departments_wrong (departments_due version m
 -- one of the records is of that kind, by its first byte: nothing else in a record is looked at
 unfoldable pub has_kind : (kind : ℕ) (records : List (List ℕ)) → Bool
 has_kind kind [] = false
-has_kind kind (r ∷ rs) = if eqb (get_or r 0 0) kind then true else has_kind kind rs
+has_kind kind (r ∷ rs) = when eqb (get_or r 0 0) kind then true else has_kind kind rs
 
 -- "Turned away: 3, 4, 5, then 18 when the buffer is shorter than the file". Wish 6: "22, after 4 ..; in the writer 2 comes first". Wish 8:
 -- "the writer turns kind 6 back with 7 between 5 and 18". 0 where the file is written. `room` is the buffer's length
 unfoldable pub write_refusal : (room : ℕ) (p : DrillParts) → ℕ
 write_refusal room p =
-    if unknown_version p.version then 2
-    else if not (sizes_right p.boxes p.stations) then 3
-    else if wrong_text p.label then 4
-    else if wrong_given p.version p.stations p.departments then 22
-    else if wrong_run (length p.run) then 5
-    else if has_kind 6 (records_in p.run) then 7
-    else if ltb room (length (file_from p)) then 18
+    when unknown_version p.version then 2
+    else when not (sizes_right p.boxes p.stations) then 3
+    else when wrong_text p.label then 4
+    else when wrong_given p.version p.stations p.departments then 22
+    else when wrong_run (length p.run) then 5
+    else when has_kind 6 (records_in p.run) then 7
+    else when ltb room (length (file_from p)) then 18
     else 0
 
 -- "and returns its size"; 0 where nothing is written

@@ -2,7 +2,7 @@
 use Rattle.std.specs.Prelude.{ℕ, zero, suc, ◌+◌, Bool, List, [], ◌∷◌, map, length, get_or}
 use Rattle.suits.specs.Suits.{single}
 use Rattle.suits.specs.declared.Suit.{Suit}
-use Rattle.base.specs.Choice.{if◌then◌else◌}
+use Rattle.base.specs.Choice.{when◌then◌else◌}
 use Rattle.register.specs.declared.Register.{Register}
 use Rattle.requests.specs.Requests.{slot_at, heard_from}
 use Rattle.requests.specs.declared.Phase.TheVariants.{Read, Write}
@@ -42,7 +42,7 @@ said_after n cs = said_from (length cs) 0 (new_floor n) (map encode_of cs)
 unfoldable pub answers_from : (k b : ℕ) (w : Row) → List (ℕ × Suit)
 answers_from zero b w = []
 answers_from (suc k) b w =
-    if heard_from w.read b then ((get_or w.answers b answer0).rank, (get_or w.answers b answer0).value) ∷ answers_from k (b + 1) w
+    when heard_from w.read b then ((get_or w.answers b answer0).rank, (get_or w.answers b answer0).value) ∷ answers_from k (b + 1) w
     else answers_from k (b + 1) w
 
 -- on a floor of n boxes, some steps, and then a step that delivers a read answer of attempt a

@@ -8,7 +8,7 @@ use lib.ListN.{length, take, drop, drop_of_length-le}
 use lib.Seq.{drop-drop, take-add, take_all}
 use borrow.Author.Tests.{le-leb}
 use Rattle.suits.specs.Suits.{single}
-use Rattle.base.specs.Choice.{if◌then◌else◌}
+use Rattle.base.specs.Choice.{when◌then◌else◌}
 use Rattle.base.proofs.Choices.{chosen}
 use Rattle.base.specs.Bytes.{Bytes, bytes32, word_at, with_word}
 use Rattle.base.proofs.ByteLaws.{word32_of_bytes, word_stored, word_at_fits, word_at_bytes}
@@ -20,23 +20,23 @@ same_register : {x : Register} {a b c : ℕ} → a ≡ x.read → b ≡ x.write 
 same_register e f g = rw (e, f, g)
 
 -- a word that the bytes have room for is read
-word_read : (s : List ℕ) (at : ℕ) {y : ℕ} → at + 4 ≤ length s → y ≡ (if leb (at + 4) (length s) then word_at s at else 0) → y ≡ word_at s at
+word_read : (s : List ℕ) (at : ℕ) {y : ℕ} → at + 4 ≤ length s → y ≡ (when leb (at + 4) (length s) then word_at s at else 0) → y ≡ word_at s at
 word_read s at h e = chosen _ (le-leb _ _ h) e
 
 -- three words that were read are the decoded register
 pub decode_words : (s : List ℕ) {a b c : ℕ} → length s ≡ 12
-    → a ≡ (if leb 4 (length s) then word_at s 0 else 0)
-    → b ≡ (if leb 8 (length s) then word_at s 4 else 0)
-    → c ≡ (if leb 12 (length s) then word_at s 8 else 0)
+    → a ≡ (when leb 4 (length s) then word_at s 0 else 0)
+    → b ≡ (when leb 8 (length s) then word_at s 4 else 0)
+    → c ≡ (when leb 12 (length s) then word_at s 8 else 0)
     → record { read = a; write = b; value = single c } ≡ decode s
 unfolding decode
 decode_words s h e f g = same_register (word_read s 0 (omega arith) e) (word_read s 4 (omega arith) f) (word_read s 8 (omega arith) g)
 
 -- three words that were stored one behind the other are all that the record then holds, and two all that the reply does
 pub record_stored : (s s₁ s₂ s₃ : List ℕ) (x : Register) → length s ≡ 12
-    → s₁ ≡ (if leb 4 (length s) then with_word s 0 x.read else s)
-    → s₂ ≡ (if leb 8 (length s₁) then with_word s₁ 4 x.write else s₁)
-    → s₃ ≡ (if leb 12 (length s₂) then with_word s₂ 8 x.value.r0 else s₂)
+    → s₁ ≡ (when leb 4 (length s) then with_word s 0 x.read else s)
+    → s₂ ≡ (when leb 8 (length s₁) then with_word s₁ 4 x.write else s₁)
+    → s₃ ≡ (when leb 12 (length s₂) then with_word s₂ 8 x.value.r0 else s₂)
     → s₃ ≡ encode x
 unfolding encode with_word
 record_stored s s₁ s₂ s₃ x h f₁ f₂ f₃ =
@@ -48,8 +48,8 @@ record_stored s s₁ s₂ s₃ x h f₁ f₂ f₃ =
     (ap (drop 4) (drop-drop 4 4 s) ∙ drop-drop 4 8 s ∙ drop_of_length-le s {i = 12} (omega (arith, h)))
 
 pub reply_stored : (s s₁ s₂ : List ℕ) (rank value : ℕ) → length s ≡ 8
-    → s₁ ≡ (if leb 4 (length s) then with_word s 0 rank else s)
-    → s₂ ≡ (if leb 8 (length s₁) then with_word s₁ 4 value else s₁)
+    → s₁ ≡ (when leb 4 (length s) then with_word s 0 rank else s)
+    → s₂ ≡ (when leb 8 (length s₁) then with_word s₁ 4 value else s₁)
     → s₂ ≡ reply_of rank value
 unfolding reply_of with_word
 reply_stored s s₁ s₂ rank value h f₁ f₂ =

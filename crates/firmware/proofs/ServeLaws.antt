@@ -9,7 +9,7 @@ use lib.ListN.{length, drop}
 use borrow.Author.Tests.{eqb-true, eqb-false, eq-eqb, ne_eqb, not-false}
 use Rattle.suits.specs.Suits.{single}
 use Rattle.base.specs.Bytes.{Bytes}
-use Rattle.base.specs.Choice.{if◌then◌else◌}
+use Rattle.base.specs.Choice.{when◌then◌else◌}
 use Rattle.base.proofs.Cases.{by_cases}
 use Rattle.base.proofs.Choices.{on_true, on_false, by_test}
 use Rattle.base.proofs.WritingLaws.{no_size, buffer_kept, size_is, buffer_is}
@@ -163,13 +163,13 @@ write_right : (d : WriteDone) → wrong_message (answer_to_write d) ≡ false
 unfolding answer_to_write
 write_right d = by_test (λ (m : Message). wrong_message m ≡ false) _ _ _ (λ _. refl) (λ _. refl)
 
-room_alone : (room : ℕ) (m : Message) → wrong_message m ≡ false → write_refusal room m ≡ (if ltb room (length (frame_of m)) then 18 else 0)
+room_alone : (room : ℕ) (m : Message) → wrong_message m ≡ false → write_refusal room m ≡ (when ltb room (length (frame_of m)) then 18 else 0)
 unfolding write_refusal
 room_alone room m t = sym (on_false _ t refl)
 
 -- ---- a request m that was read, and served: the register after it and the answer o
 module _ (s input : List ℕ) (m : Message) (e : parsed input ≡ Accepted m) (after : Register) (o : Message) (f : served_of s m ≡ Served after o) where
-  said_room : (room : ℕ) → wrong_message o ≡ false → serve_answer s input room ≡ (if ltb room (length (frame_of o)) then 18 else 0)
+  said_room : (room : ℕ) → wrong_message o ≡ false → serve_answer s input room ≡ (when ltb room (length (frame_of o)) then 18 else 0)
   said_room room t = by_message s input room m e (Served after o) f ∙ room_alone room o t
 
   said_answered : (b : List ℕ) → serve_answer s input (length b) ≡ 0 → Answered s input b after o
@@ -186,7 +186,7 @@ module _ (s input : List ℕ) (r : ℕ) (e : parsed input ≡ Accepted (ReadRequ
   read_on_twelve : length s ≡ 12 → read_served s r ≡ Served (rmw_read (decode s) r).register (answer_to_read (rmw_read (decode s) r))
   read_on_twelve h = sym (read_done s r h (decode s) (rmw_read (decode s) r) refl refl _ refl)
 
-  pub says_read_room : (room : ℕ) → length s ≡ 12 → serve_answer s input room ≡ (if ltb room (length (frame_of (answer_to_read (rmw_read (decode s) r)))) then 18 else 0)
+  pub says_read_room : (room : ℕ) → length s ≡ 12 → serve_answer s input room ≡ (when ltb room (length (frame_of (answer_to_read (rmw_read (decode s) r)))) then 18 else 0)
   says_read_room room h = said_room s input _ e _ _ (read_on_twelve h) room (read_right _)
 
   pub serves_read : (b : List ℕ) → serve_answer s input (length b) ≡ 0 → Answered s input b (rmw_read (decode s) r).register (answer_to_read (rmw_read (decode s) r))
@@ -196,7 +196,7 @@ module _ (s input : List ℕ) (r v : ℕ) (e : parsed input ≡ Accepted (WriteR
   write_on_twelve : length s ≡ 12 → write_served s r v ≡ Served (rmw_write (decode s) r (single v)).register (answer_to_write (rmw_write (decode s) r (single v)))
   write_on_twelve h = sym (write_done s r v h (decode s) (rmw_write (decode s) r (single v)) refl refl _ refl)
 
-  pub says_write_room : (room : ℕ) → length s ≡ 12 → serve_answer s input room ≡ (if ltb room (length (frame_of (answer_to_write (rmw_write (decode s) r (single v))))) then 18 else 0)
+  pub says_write_room : (room : ℕ) → length s ≡ 12 → serve_answer s input room ≡ (when ltb room (length (frame_of (answer_to_write (rmw_write (decode s) r (single v))))) then 18 else 0)
   says_write_room room h = said_room s input _ e _ _ (write_on_twelve h) room (write_right _)
 
   pub serves_write : (b : List ℕ) → serve_answer s input (length b) ≡ 0 → Answered s input b (rmw_write (decode s) r (single v)).register (answer_to_write (rmw_write (decode s) r (single v)))

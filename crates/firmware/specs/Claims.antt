@@ -2,7 +2,7 @@
 use Rattle.std.specs.Prelude.{ℕ, ◌+◌, ◌*◌, ◌≤◌, ◌<◌, ◌^◌, ◌≡◌, ◌⊎◌, true, false, List, eqb, ltb, length, drop, replicate}
 use Rattle.suits.specs.Suits.{single}
 use Rattle.base.specs.Bytes.{Bytes, word_at}
-use Rattle.base.specs.Choice.{if◌then◌else◌}
+use Rattle.base.specs.Choice.{when◌then◌else◌}
 use Rattle.register.specs.Register.{is_held, rank_in, value_in, rmw_read, rmw_write}
 use Rattle.register.specs.declared.Register.{Register}
 use Rattle.frames.specs.Claims.{ReadAs}
@@ -83,10 +83,10 @@ pub record Answered (s input buffer : List ℕ) (after : Register) (answer : Mes
 
 -- the answer of a box call as a message: of a read, what `box_read` returns and its reply; of a write, what `box_write` returns
 abbrev pub replied : (answer : ℕ) (reply : List ℕ) → Message
-replied answer reply = if eqb answer 0 then ReadAnswer (word_at reply 0) (word_at reply 4) else Outranked
+replied answer reply = when eqb answer 0 then ReadAnswer (word_at reply 0) (word_at reply 4) else Outranked
 
 abbrev pub noted : (answer : ℕ) → Message
-noted answer = if eqb answer 0 then Taken else NotTaken
+noted answer = when eqb answer 0 then Taken else NotTaken
 
 pub record ServeClaims : Type 0 where
   -- the writer of frames
@@ -96,9 +96,9 @@ pub record ServeClaims : Type 0 where
   pub no_request : (s input : List ℕ) (room : ℕ) (m : Message) → parsed input ≡ Accepted m → ¬ IsRequest m → serve_answer s input room ≡ 21
   pub serve_16 : (s input : List ℕ) (room : ℕ) (m : Message) → parsed input ≡ Accepted m → IsRequest m → ¬ (length s ≡ 12) → serve_answer s input room ≡ 16
   pub read_room : (s input : List ℕ) (room r : ℕ) → parsed input ≡ Accepted (ReadRequest r) → length s ≡ 12
-      → serve_answer s input room ≡ (if ltb room (length (frame_of (answer_to_read (rmw_read (decode s) r)))) then 18 else 0)
+      → serve_answer s input room ≡ (when ltb room (length (frame_of (answer_to_read (rmw_read (decode s) r)))) then 18 else 0)
   pub write_room : (s input : List ℕ) (room r v : ℕ) → parsed input ≡ Accepted (WriteRequest r v) → length s ≡ 12
-      → serve_answer s input room ≡ (if ltb room (length (frame_of (answer_to_write (rmw_write (decode s) r (single v))))) then 18 else 0)
+      → serve_answer s input room ≡ (when ltb room (length (frame_of (answer_to_write (rmw_write (decode s) r (single v))))) then 18 else 0)
   -- turned away, nothing is changed
   pub kept : (s input buffer : List ℕ) → ¬ (serve_answer s input (length buffer) ≡ 0) → Kept s input buffer
   -- served, it is the box routine's doing

@@ -2,7 +2,7 @@
 -- back, in checking order".
 use Rattle.std.specs.Prelude.{ℕ, not, ◌||◌, List, ◌++◌, eqb, length, replicate}
 use Rattle.suits.specs.Suits.{single}
-use Rattle.base.specs.Choice.{if◌then◌else◌}
+use Rattle.base.specs.Choice.{when◌then◌else◌}
 use Rattle.base.specs.Bytes.{bytes32, word_at}
 use Rattle.register.specs.Register.{number_in, rank_in, value_in, rmw_read, rmw_write}
 use Rattle.register.specs.declared.Register.{Register}
@@ -23,30 +23,30 @@ reply_of rank value = bytes32 rank ++ bytes32 value
 -- that "16. A box call whose record is not 12 bytes or whose reply is not 8", then "17. A box call with rank 0".
 unfoldable pub read_answer : (s : List ℕ) (r : ℕ) (p : List ℕ) → ℕ
 read_answer s r p =
-    if not (eqb (length s) 12) || not (eqb (length p) 8) then 16
-    else if eqb r 0 then 17
+    when not (eqb (length s) 12) || not (eqb (length p) 8) then 16
+    else when eqb r 0 then 17
     else number_in (rmw_read (decode s) r).answer
 
 -- "A write returns 0 for taken and 100 for not taken", of record s with rank r and revision v. Before that 16 (a write has no reply), then
 -- "17. A box call with rank 0"; wish 7: it "stop[s] looking at the revision".
 unfoldable pub write_answer : (s : List ℕ) (r v : ℕ) → ℕ
 write_answer s r v =
-    if not (eqb (length s) 12) then 16
-    else if eqb r 0 then 17
-    else if (rmw_write (decode s) r (single v)).taken then 0
+    when not (eqb (length s) 12) then 16
+    else when eqb r 0 then 17
+    else when (rmw_write (decode s) r (single v)).taken then 0
     else 100
 
 -- The record and the reply after a call. "Floor, record and reply stay unchanged" where it was refused; a read that is outranked and a
 -- write that is not taken change no record: only after answer 0 the record is that of the register after the routine.
 unfoldable pub record_after_read : (s : List ℕ) (r : ℕ) (p : List ℕ) → List ℕ
-record_after_read s r p = if eqb (read_answer s r p) 0 then encode (rmw_read (decode s) r).register else s
+record_after_read s r p = when eqb (read_answer s r p) 0 then encode (rmw_read (decode s) r).register else s
 
 -- outranked it "zeroes the reply"
 unfoldable pub reply_after_read : (s : List ℕ) (r : ℕ) (p : List ℕ) → List ℕ
 reply_after_read s r p =
-    if eqb (read_answer s r p) 0 then reply_of (rank_in (rmw_read (decode s) r).answer) (value_in (rmw_read (decode s) r).answer).r0
-    else if eqb (read_answer s r p) 100 then replicate 8 0
+    when eqb (read_answer s r p) 0 then reply_of (rank_in (rmw_read (decode s) r).answer) (value_in (rmw_read (decode s) r).answer).r0
+    else when eqb (read_answer s r p) 100 then replicate 8 0
     else p
 
 unfoldable pub record_after_write : (s : List ℕ) (r v : ℕ) → List ℕ
-record_after_write s r v = if eqb (write_answer s r v) 0 then encode (rmw_write (decode s) r (single v)).register else s
+record_after_write s r v = when eqb (write_answer s r v) 0 then encode (rmw_write (decode s) r (single v)).register else s

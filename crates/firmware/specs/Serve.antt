@@ -2,7 +2,7 @@
 -- the other.
 use Rattle.std.specs.Prelude.{ℕ, not, List, eqb, length}
 use Rattle.suits.specs.Suits.{single}
-use Rattle.base.specs.Choice.{if◌then◌else◌}
+use Rattle.base.specs.Choice.{when◌then◌else◌}
 use Rattle.register.specs.Register.{is_held, rank_in, value_in, rmw_read, rmw_write}
 use Rattle.register.specs.declared.ReadDone.{ReadDone}
 use Rattle.register.specs.declared.WriteDone.{WriteDone}
@@ -18,20 +18,20 @@ use Rattle.firmware.specs.declared.Serving.TheVariants.{TurnedAway, Served}
 
 -- the answer of a read as a message, "3 read answer (write rank, value)" or "4 outranked"; that of a write, "5 taken" or "6 not taken"
 unfoldable pub answer_to_read : (d : ReadDone) → Message
-answer_to_read d = if is_held d.answer then ReadAnswer (rank_in d.answer) (value_in d.answer).r0 else Outranked
+answer_to_read d = when is_held d.answer then ReadAnswer (rank_in d.answer) (value_in d.answer).r0 else Outranked
 
 unfoldable pub answer_to_write : (d : WriteDone) → Message
-answer_to_write d = if d.taken then Taken else NotTaken
+answer_to_write d = when d.taken then Taken else NotTaken
 
 -- the box routine on the register that the record holds; before that "16. A box call whose record is not 12 bytes"
 unfoldable pub read_served : (s : List ℕ) (rank : ℕ) → Serving
 read_served s rank =
-    if not (eqb (length s) 12) then TurnedAway 16
+    when not (eqb (length s) 12) then TurnedAway 16
     else Served (rmw_read (decode s) rank).register (answer_to_read (rmw_read (decode s) rank))
 
 unfoldable pub write_served : (s : List ℕ) (rank revision : ℕ) → Serving
 write_served s rank revision =
-    if not (eqb (length s) 12) then TurnedAway 16
+    when not (eqb (length s) 12) then TurnedAway 16
     else Served (rmw_write (decode s) rank (single revision)).register (answer_to_write (rmw_write (decode s) rank (single revision)))
 
 -- a message that is no request is turned away with 21, as an unknown kind is: to a box only 1 and 2 are kinds of request
@@ -58,7 +58,7 @@ answer_in room (Served after m) = write_refusal room m
 
 abbrev pub record_in : (s : List ℕ) (room : ℕ) (x : Serving) → List ℕ
 record_in s room (TurnedAway k) = s
-record_in s room (Served after m) = if eqb (write_refusal room m) 0 then encode after else s
+record_in s room (Served after m) = when eqb (write_refusal room m) 0 then encode after else s
 
 abbrev pub buffer_in : (buffer : List ℕ) (x : Serving) → List ℕ
 buffer_in buffer (TurnedAway k) = buffer

@@ -8,7 +8,7 @@ use lib.Dec.{eqb}
 use lib.ListN.{set}
 use lib.Seq.{set-get_or}
 use borrow.Author.Tests.{leb-false, eqb-true, eqb-false}
-use Rattle.base.specs.Choice.{if◌then◌else◌}
+use Rattle.base.specs.Choice.{when◌then◌else◌}
 use Rattle.base.proofs.Cases.{clash}
 use Rattle.base.proofs.Choices.{by_test}
 use Rattle.register.specs.Register.{box0, box_with}
@@ -98,18 +98,18 @@ abbrev pub accepted : Floor → Command → Changed → Stepped
 accepted f c y = record { floor = put f c y.parts; outcome = y.outcome }
 
 -- two choices by one test that agree where it fails
-same_else : {A : Type 0} (t : Bool) (k x y : A) → (t ≡ false → x ≡ y) → (if t then k else x) ≡ (if t then k else y)
-unfolding if◌then◌else◌
+same_else : {A : Type 0} (t : Bool) (k x y : A) → (t ≡ false → x ≡ y) → (when t then k else x) ≡ (when t then k else y)
+unfolding when◌then◌else◌
 same_else true k x y h = refl
 same_else false k x y h = h refl
 
 -- the same after two tests
-same_past : (t u : Bool) (k j x y : ℕ) → (t ≡ false → u ≡ false → x ≡ y) → (if t then k else if u then j else x) ≡ (if t then k else if u then j else y)
-same_past t u k j x y h = same_else t k (if u then j else x) (if u then j else y) (λ e. same_else u j x y (h e))
+same_past : (t u : Bool) (k j x y : ℕ) → (t ≡ false → u ≡ false → x ≡ y) → (when t then k else when u then j else x) ≡ (when t then k else when u then j else y)
+same_past t u k j x y h = same_else t k (when u then j else x) (when u then j else y) (λ e. same_else u j x y (h e))
 
 -- a function of a choice, where the tests agree and each branch leads to the other's
-through : {A B : Type 0} (g : A → B) {t u : Bool} {x y : A} {v w : B} → t ≡ u → g x ≡ v → g y ≡ w → g (if t then x else y) ≡ (if u then v else w)
-unfolding if◌then◌else◌
+through : {A B : Type 0} (g : A → B) {t u : Bool} {x y : A} {v w : B} → t ≡ u → g x ≡ v → g y ≡ w → g (when t then x else y) ≡ (when u then v else w)
+unfolding when◌then◌else◌
 through g {t = true} e p q = rw (← e) p
 through g {t = false} e p q = rw (← e) q
 

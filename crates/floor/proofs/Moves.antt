@@ -35,7 +35,7 @@ module _ (f : Floor) (c : Command) (j : ℕ) where
   pub data RowMove : Outcome → Row → Type 0 where
     row_kept : {o : Outcome} → RowMove o (row_at f j)
     row_begins : {s round : ℕ} {v : Suit} → c ≡ Begin s round v → s < f.m → j ≡ row_taken f s → RowMove (Begun (row_taken f s)) (new_row f.n s round v)
-    row_served : {p : Phase} {b : ℕ} → c ≡ Serve p j b → CanServe f p j b → RowMove (Served j) (row_served p (row_at f j) (served_by f j b) b)
+    row_served_lem : {p : Phase} {b : ℕ} → c ≡ Serve p j b → CanServe f p j b → RowMove (Served j) (row_served p (row_at f j) (served_by f j b) b)
     row_heard_lem : {p : Phase} {b : ℕ} {o : Outcome} → c ≡ Deliver p j b → CanDeliver f p j b → is_refused o ≡ false → RowMove o (heard_row f p j b)
     row_issues : {b : ℕ} {v : Suit} → c ≡ Deliver Read j b → CanDeliver f Read j b → is_reading (owner_at f j).state j ≡ true
         → at_quorum (heard_row f Read j b).read f.n ≡ true → all_yes (heard_row f Read j b).read f.n ≡ true → v ≡ revision_of (heard_row f Read j b) f.n
@@ -88,7 +88,7 @@ box_moves {f} (returned {b = b} z d) j = boxes_moved f _ _ b _ (box_returns refl
 row_moves : {f : Floor} {c : Command} {s : Stepped} → StepCase f c s → (j : ℕ) → RowMove f c j s.outcome (row_at s.floor j)
 row_moves (turned k t) j = row_kept
 row_moves {f} (began {s = s} z d) j = rows_moved f _ _ (row_taken f s) _ (row_begins refl d.station refl) j
-row_moves {f} (served {a = a} z d) j = rows_moved f _ _ a _ (row_served refl d) j
+row_moves {f} (served {a = a} z d) j = rows_moved f _ _ a _ (row_served_lem refl d) j
 row_moves {f} (heard {a = a} z d q) j = rows_moved f _ _ a _ (row_heard_lem refl d refl) j
 row_moves {f} (issued {a = a} z d r q t) j = rows_moved f _ _ a _ (row_issues refl d r q t refl) j
 row_moves {f} (decided {a = a} z d r q t) j = rows_moved f _ _ a _ (row_heard_lem refl d refl) j

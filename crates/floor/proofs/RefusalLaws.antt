@@ -6,7 +6,7 @@ use mathlib.Core.Logic.{◌⊎◌, inl, inr}
 use mathlib.Core.Bool.{Bool, true, false}
 use lib.Dec.{eqb}
 use borrow.Author.Tests.{leb-false, lt-leb, ne_eqb}
-use Rattle.base.specs.Choice.{if◌then◌else◌}
+use Rattle.base.specs.Choice.{when◌then◌else◌}
 use Rattle.base.proofs.Choices.{on_true, on_false, by_test, passed}
 use Rattle.requests.specs.declared.Phase.{Phase}
 use Rattle.floor.specs.Refusals.{begin_refusal, serve_refusal, deliver_refusal, stop_refusal, leave_refusal, return_refusal, refusal_on}
@@ -16,8 +16,8 @@ use Rattle.commands.specs.declared.Command.{Command}
 use Rattle.commands.specs.declared.Command.TheVariants.{Begin, Serve, Deliver, Stop, Leave, Return, Malformed}
 
 -- the last test, which has to hold
-met : (t : Bool) (k : ℕ) → (if t then 0 else k) ≡ 0 → 0 < k → t ≡ true
-unfolding if◌then◌else◌
+met : (t : Bool) (k : ℕ) → (when t then 0 else k) ≡ 0 → 0 < k → t ≡ true
+unfolding when◌then◌else◌
 met true k e h = refl
 met false k e h = absurd (omega arith)
 
@@ -110,10 +110,10 @@ module _ (f : Floor) where
 abbrev pub Numbered : ℕ → Type 0
 Numbered k = (k ≡ 0) ⊎ RefusalOfStep k
 
-or_else : (t : Bool) (k x : ℕ) → 6 ≤ k → k ≤ 14 → Numbered x → Numbered (if t then k else x)
+or_else : (t : Bool) (k x : ℕ) → 6 ≤ k → k ≤ 14 → Numbered x → Numbered (when t then k else x)
 or_else t k x l h r = by_test Numbered t k x (λ _. inr (inl (l, h))) (λ _. r)
 
-finally : (t : Bool) (k : ℕ) → RefusalOfStep k → Numbered (if t then 0 else k)
+finally : (t : Bool) (k : ℕ) → RefusalOfStep k → Numbered (when t then 0 else k)
 finally t k h = by_test Numbered t 0 k (λ _. inl refl) (λ _. inr h)
 
 module _ (f : Floor) (p : Phase) (a b : ℕ) where

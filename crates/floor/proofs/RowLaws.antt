@@ -34,7 +34,7 @@ use Rattle.base.proofs.Cases.{clash}
 use Rattle.requests.proofs.Standings.{arrives_means}
 use Rattle.floor.proofs.StepCases.{StepCase, turned, began, served, heard, issued, decided, aborted, stopped, left, returned, apply_case}
 use Rattle.floor.proofs.UseLaws.{share_own, share_other}
-use Rattle.floor.proofs.Moves.{RowMove, row_kept, row_begins, row_served, row_heard_lem, row_issues, apply_row}
+use Rattle.floor.proofs.Moves.{RowMove, row_kept, row_begins, row_served_lem, row_heard_lem, row_issues, apply_row}
 use Rattle.floor.proofs.BegunUse.{begun_use, use_begun, taken_use}
 use Rattle.floor.proofs.StoredLaws.{used_stored}
 use Rattle.floor.proofs.Outcomes.{apply_means}
@@ -117,7 +117,7 @@ module _ {f : Floor} {c : Command} {j : ℕ} where
   unfolding rows.issued
   attempt_kept row_kept n = record { station = refl; rank = refl; offer = refl }
   attempt_kept (row_begins q l e) n = absurd (n (ap Begun (sym e)))
-  attempt_kept (row_served q d) n = record { station = refl; rank = refl; offer = refl }
+  attempt_kept (row_served_lem q d) n = record { station = refl; rank = refl; offer = refl }
   attempt_kept (row_issues q d r t u e) n = record { station = refl; rank = refl; offer = refl }
   attempt_kept (row_heard_lem q d o) n = record { station = refl; rank = refl; offer = refl }
 

@@ -7,7 +7,7 @@ use lib.Dec.{leb}
 use lib.ListN.{get_or, set}
 use borrow.Author.Tests.{leb-false}
 use native.Mathlib.Omega.{arith}
-use Rattle.base.specs.Choice.{if◌then◌else◌}
+use Rattle.base.specs.Choice.{when◌then◌else◌}
 use Rattle.base.specs.Records.{record_at, records_from}
 use Rattle.base.proofs.Choices.{both_false}
 use Rattle.commands.specs.Commands.{command_of}
@@ -122,9 +122,9 @@ module _ {f : Floor} {c : Command} {d : Department} {next i b j : ℕ} {y : Chan
 
     -- the loop asked of what it said whether it was refused, whether it ends an attempt, and so whether the run is over
     module _ (until : Until) (count k : ℕ) (refused ends over : Bool) (er : refused ≡ is_refused y.outcome) (ee : ends ≡ is_end y.outcome)
-        (eo : over ≡ (if leb (count - k) 0 then true else stops_by until refused ends)) where
-      over_says : over ≡ (if leb (count - k) 0 then true else stops_at until (apply_of f c).outcome)
-      over_says = eo ∙ ap₂ (λ (s t : Bool). if leb (count - k) 0 then true else stops_by until s t) (er ∙ ap is_refused turn_says) (ee ∙ ap is_end turn_says)
+        (eo : over ≡ (when leb (count - k) 0 then true else stops_by until refused ends)) where
+      over_says : over ≡ (when leb (count - k) 0 then true else stops_at until (apply_of f c).outcome)
+      over_says = eo ∙ ap₂ (λ (s t : Bool). when leb (count - k) 0 then true else stops_by until s t) (er ∙ ap is_refused turn_says) (ee ∙ ap is_end turn_says)
 
       pub turn_over : (l : List ℕ) → over ≡ true
           → record { floor = left_at f i b j storage shares y.parts; accepted = k + 1; outcome = y.outcome } ≡ run_from until k f c (records_from (count - k) l (8 * k))

@@ -29,7 +29,7 @@ use Rattle.floor.specs.Effects.{served_by}
 use Rattle.floor.specs.Step.{apply_of}
 use Rattle.floor.specs.Soundness.{Sound, Lengths}
 use Rattle.floor.specs.declared.Floor.{Floor}
-use Rattle.floor.proofs.Moves.{RowMove, row_kept, row_begins, row_served, row_heard_lem, row_issues, apply_row, StandingMove, stands_kept, stands_new, stands_served, stands_received, stands_issued}
+use Rattle.floor.proofs.Moves.{RowMove, row_kept, row_begins, row_served_lem, row_heard_lem, row_issues, apply_row, StandingMove, stands_kept, stands_new, stands_served, stands_received, stands_issued}
 
 pub is_waiting_lem : (s : Standing) → is_waiting s ≡ true → s ≡ waiting
 is_waiting_lem not_issued e = clash e refl
@@ -106,7 +106,7 @@ module _ (f : Floor) (z : Sound f) (y : Lengths f) (a : ℕ) (h : a < 128) (b : 
   leads : (p : Phase) {o : Outcome} {w : Row} → RowMove f c a o w → Leads p o w
   leads p row_kept = stands_kept
   leads p (row_begins e s q) = stands_new (sym q)
-  leads p (row_served {p = q} {b = j} e d) = served_leads p q j (served_by f a j) e d.waits
+  leads p (row_served_lem {p = q} {b = j} e d) = served_leads p q j (served_by f a j) e d.waits
   leads p (row_heard_lem {p = q} {b = j} {o = o} e d k) = heard_leads p q j o k e d.arrives
   leads p (row_issues {b = j} {v = v} e d r q t u) = issued_leads p j v e d.arrives r
 

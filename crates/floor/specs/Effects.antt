@@ -1,7 +1,7 @@
 -- Document 01, "Steps", and wishes 2, 5, 6, 7 and 8 of document 02: the floor that an accepted step leads to, and what came of it.
 use Rattle.std.specs.Prelude.{ℕ, max, Bool, true, false}
 use Rattle.suits.specs.declared.Suit.{Suit}
-use Rattle.base.specs.Choice.{if◌then◌else◌}
+use Rattle.base.specs.Choice.{when◌then◌else◌}
 use Rattle.base.specs.Numbers.{rank_of}
 use Rattle.register.specs.declared.Register.{Register}
 use Rattle.register.specs.declared.StorageBox.{StorageBox}
@@ -110,7 +110,7 @@ heard_on f phase a b No = stepped (after_abort f a (heard_row f phase a b)) (sai
 -- a delivery, to a station that is in that phase of the attempt, or to any other
 unfoldable pub delivered_on : (f : Floor) (phase : Phase) (a b : ℕ) → Stepped
 delivered_on f phase a b =
-    if is_in phase (owner_at f a).state a then heard_on f phase a b (verdict_on f phase a b)
+    when is_in phase (owner_at f a).state a then heard_on f phase a b (verdict_on f phase a b)
     else received_on f phase a b
 
 -- Wish 8: "Our boxes lose power and return with their records": both records of the box x stay, whether it is away or not

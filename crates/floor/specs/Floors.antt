@@ -1,7 +1,7 @@
 -- Document 01, "The floor", and wish 6 of document 02: what stands at a place, what each department has of the floor, the floor with one
 -- place stored, a new floor, and refusals 3 and 22.
 use Rattle.std.specs.Prelude.{ℕ, zero, suc, ◌+◌, ◌<◌, List, [], eqb, length, get_or, set, replicate}
-use Rattle.base.specs.Choice.{if◌then◌else◌}
+use Rattle.base.specs.Choice.{when◌then◌else◌}
 use Rattle.base.specs.Numbers.{sizes_right}
 use Rattle.base.specs.Departments.{departments_wrong}
 use Rattle.register.specs.Register.{of_department, box0, register_of, box_with}
@@ -93,7 +93,7 @@ with_row f a w = with_rows f (set f.rows a w)
 
 -- "one byte a station: 0 sails, 1 canvas"
 unfoldable pub department_from : (byte : ℕ) → Department
-department_from byte = if eqb byte 0 then Sails else Canvas
+department_from byte = when eqb byte 0 then Sails else Canvas
 
 -- a station of that department that has begun nothing and decided nothing
 abbrev pub new_station : (department : Department) → Station
@@ -120,8 +120,8 @@ empty_floor n m departments =
 -- floor of one box and one station". Wish 6: a new floor is told the departments, and 22 comes behind 3.
 unfoldable pub new_floor_of : (n m : ℕ) (departments : List ℕ) → NewFloor
 new_floor_of n m departments =
-    if sizes_right n m then
-    (if departments_wrong m departments then record { floor = empty_floor 1 1 []; refusal = 22 }
+    when sizes_right n m then
+    (when departments_wrong m departments then record { floor = empty_floor 1 1 []; refusal = 22 }
     else record { floor = empty_floor n m departments; refusal = 0 })
     else record { floor = empty_floor 1 1 []; refusal = 3 }
 

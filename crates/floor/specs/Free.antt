@@ -1,6 +1,6 @@
 -- Document 02, wishes 5 and 6: when a row is free, and the row that a begin takes in its department.
 use Rattle.std.specs.Prelude.{ℕ, zero, suc, ◌+◌, Bool, true, false, ltb}
-use Rattle.base.specs.Choice.{if◌then◌else◌}
+use Rattle.base.specs.Choice.{when◌then◌else◌}
 use Rattle.register.specs.declared.Department.{Department}
 use Rattle.commands.specs.declared.Command.{Command}
 use Rattle.commands.specs.declared.Command.TheVariants.{Begin, Serve, Deliver, Stop, Leave, Return, Malformed}
@@ -15,7 +15,7 @@ use Rattle.floor.specs.declared.Floor.{Floor}
 
 -- one box more
 unfoldable pub still_served : (before waits : Bool) → Bool
-still_served before waits = if waits then false else before
+still_served before waits = when waits then false else before
 
 -- Wish 8: "served at every box, away or not": at none of the first k boxes one of the issued requests waits
 unfoldable pub all_served : (w : Row) (k : ℕ) → Bool
@@ -25,7 +25,7 @@ all_served w (suc k) = still_served (all_served w k) (waits_at w k)
 -- Wish 5: "An attempt is over when its station no longer reads or writes in it: decided, aborted or gone." Wish 8: "Rows are now free only
 -- when served at every box, away or not." The row w of the attempt a, whose station is in that state.
 unfoldable pub free_in : (w : Row) (state : State) (n a : ℕ) → Bool
-free_in w state n a = if is_active state a then false else all_served w n
+free_in w state n a = when is_active state a then false else all_served w n
 
 -- the row a of a floor
 abbrev pub is_free : (f : Floor) (a : ℕ) → Bool
@@ -34,7 +34,7 @@ is_free f a = free_in (row_at f a) (owner_at f a).state f.n a
 -- the better of the row found so far and the row a: that, if it is free and its rank is smaller
 unfoldable pub better_in : (x : Lowest) (w : Row) (state : State) (n a : ℕ) → Lowest
 better_in x w state n a =
-    if lower_in 128 x w.rank then (if free_in w state n a then record { row = a; rank = w.rank } else x)
+    when lower_in 128 x w.rank then (when free_in w state n a then record { row = a; rank = w.rank } else x)
     else x
 
 -- "the free row with the smallest rank, of equals the lowest", among the first k rows of the department; its number is 128 where none of
@@ -48,7 +48,7 @@ free_below f department (suc k) =
 -- the row that a begin of the department takes: the next, and "With all 64 used .. the free row with the smallest rank"; 128 where no row is
 -- unused or free. Wish 6: "each counted (refusals 6 and 12) and freed alone"
 unfoldable pub next_row : (f : Floor) (department : Department) → ℕ
-next_row f department = if ltb (used_of f department) 64 then end_of f department else (free_below f department 64).row
+next_row f department = when ltb (used_of f department) 64 then end_of f department else (free_below f department 64).row
 
 -- Internal, of the loop: only a begin takes a row,
 abbrev pub taken_by : (f : Floor) (department : Department) (c : Command) → ℕ
@@ -62,7 +62,7 @@ taken_by f department Malformed = 0
 
 -- and only one with all 64 used has to look for it: it looks at each row of the department, from its first on
 abbrev pub start_of : (first used : ℕ) (c : Command) → Lowest
-start_of first used (Begin s round v) = if ltb used 64 then record { row = first + used; rank = 0 } else no_row 128
+start_of first used (Begin s round v) = when ltb used 64 then record { row = first + used; rank = 0 } else no_row 128
 start_of first used (Serve p a b) = record { row = 0; rank = 0 }
 start_of first used (Deliver p a b) = record { row = 0; rank = 0 }
 start_of first used (Stop b) = record { row = 0; rank = 0 }
@@ -71,4 +71,4 @@ start_of first used (Return b) = record { row = 0; rank = 0 }
 start_of first used Malformed = record { row = 0; rank = 0 }
 
 unfoldable pub first_of : (x : Lowest) → ℕ
-first_of x = if ltb x.row 128 then 64 else 0
+first_of x = when ltb x.row 128 then 64 else 0

@@ -1,6 +1,6 @@
 -- The steps of a list of records, "each step given the floor that the last one left".
 use Rattle.std.specs.Prelude.{ℕ, List, [], ◌∷◌, Bool, eqb, length, get_or}
-use Rattle.base.specs.Choice.{if◌then◌else◌}
+use Rattle.base.specs.Choice.{when◌then◌else◌}
 use Rattle.base.specs.Records.{records_in}
 use Rattle.commands.specs.Commands.{command_of}
 use Rattle.commands.specs.Outcomes.{number_of, is_refused, is_end}
@@ -69,11 +69,11 @@ run_refusal f bytes = refusal_by (sound_of f) (length bytes)
 -- its records played
 unfoldable pub played_in : (f : Floor) (bytes : List ℕ) → Played
 played_in f bytes =
-    if eqb (run_refusal f bytes) 0 then played_on f (records_in bytes)
+    when eqb (run_refusal f bytes) 0 then played_on f (records_in bytes)
     else record { floor = f; accepted = 0; refusal = run_refusal f bytes }
 
 -- a record and those behind it, up to the end of an attempt
 unfoldable pub driven_in : (f : Floor) (r bytes : List ℕ) → Ran
 driven_in f r bytes =
-    if eqb (run_refusal f bytes) 0 then run_of End f r (records_in bytes)
+    when eqb (run_refusal f bytes) 0 then run_of End f r (records_in bytes)
     else record { floor = f; accepted = 0; outcome = Refused (run_refusal f bytes) }

@@ -9,7 +9,7 @@ use lib.Dec.{eqb, ltb}
 use lib.ListN.{length, get_or, take, drop, length-append, take-append-drop}
 use lib.Seq.{drop-cons, drop-drop, take-add, drop-append_seam}
 use Rattle.base.specs.Bytes.{Bytes, bytes16, bytes32, word_at}
-use Rattle.base.specs.Choice.{if◌then◌else◌}
+use Rattle.base.specs.Choice.{when◌then◌else◌}
 use Rattle.base.proofs.ByteLaws.{bytes_below, bytes16_of_word, word32_of_bytes, word_at_bytes}
 use Rattle.base.proofs.Cases.{clash, by_cases}
 use Rattle.base.proofs.Choices.{on_true, on_false, chosen, by_test, passed}
@@ -27,7 +27,7 @@ use Rattle.frames.proofs.ReaderLaws.{gives_message, accepted_means, start_accept
 
 -- ---- kinds by number
 known_kind : (m : Message) → known (kind_of m) ≡ true
-unfolding known if◌then◌else◌
+unfolding known when◌then◌else◌
 known_kind (ReadRequest r) = refl
 known_kind (WriteRequest r v) = refl
 known_kind (ReadAnswer w v) = refl
@@ -38,15 +38,15 @@ known_kind NotTaken = refl
 -- the message of a kind's number and two fields; past the kinds the last one
 of_number : (kind first second : ℕ) → Message
 of_number kind first second =
-    if eqb kind 1 then ReadRequest first
-    else if eqb kind 2 then WriteRequest first second
-    else if eqb kind 3 then ReadAnswer first second
-    else if eqb kind 4 then Outranked
-    else if eqb kind 5 then Taken
+    when eqb kind 1 then ReadRequest first
+    else when eqb kind 2 then WriteRequest first second
+    else when eqb kind 3 then ReadAnswer first second
+    else when eqb kind 4 then Outranked
+    else when eqb kind 5 then Taken
     else NotTaken
 
 formed_known : (m : Message) (first second : ℕ) → formed (kind_of m) first second ≡ checked (of_number (kind_of m) first second)
-unfolding formed of_number if◌then◌else◌
+unfolding formed of_number when◌then◌else◌
 formed_known (ReadRequest r) first second = refl
 formed_known (WriteRequest r v) first second = refl
 formed_known (ReadAnswer w v) first second = refl
@@ -55,7 +55,7 @@ formed_known Taken first second = refl
 formed_known NotTaken first second = refl
 
 number_named : (m : Message) → of_number (kind_of m) (first_of m) (second_of m) ≡ m
-unfolding of_number if◌then◌else◌
+unfolding of_number when◌then◌else◌
 number_named (ReadRequest r) = refl
 number_named (WriteRequest r v) = refl
 number_named (ReadAnswer w v) = refl
@@ -76,7 +76,7 @@ field_is s at h e = field_within s at h ∙ e
 
 module _ (t : List ℕ) where
   frame_stated : (m : Message) → stated_length (frame_of m ++ t) ≡ 2 + 4 * fields_in (kind_of m)
-  unfolding frame_of body_of fields_in if◌then◌else◌
+  unfolding frame_of body_of fields_in when◌then◌else◌
   frame_stated (ReadRequest r) = refl
   frame_stated (WriteRequest r v) = refl
   frame_stated (ReadAnswer w v) = refl
@@ -100,7 +100,7 @@ module _ (t : List ℕ) where
 
   -- so the message is told by the bytes
   frame_told : (m : Message) → of_number (kind_byte (frame_of m ++ t)) (field_at (frame_of m ++ t) 4) (field_at (frame_of m ++ t) 8) ≡ m
-  unfolding frame_of body_of word_at of_number if◌then◌else◌
+  unfolding frame_of body_of word_at of_number when◌then◌else◌
   frame_told (ReadRequest r) = ap ReadRequest (field_is _ 4 (omega arith) (word32_of_bytes r))
   frame_told (WriteRequest r v) =
       ap₂ WriteRequest (field_is _ 4 (omega arith) (word32_of_bytes r)) (field_is _ 8 (omega arith) (word32_of_bytes v))
@@ -185,7 +185,7 @@ module _ (kind first second : ℕ) (m : Message) where
       record { kind_is = same ∙ k ∙ ap kind_of c.0; fields_are = ap fields_of (sym c.0) ∙ rw same f; right = c.1 }
 
   formed_means : formed kind first second ≡ Accepted m → Formed kind first second m
-  unfolding formed fields_in if◌then◌else◌
+  unfolding formed fields_in when◌then◌else◌
   formed_means =
       by_test Means _ _ _ (of_kind 1 (ReadRequest first) refl refl) (λ _.
       by_test Means _ _ _ (of_kind 2 (WriteRequest first second) refl refl) (λ _.
@@ -199,7 +199,7 @@ unknown_not : (kind j : ℕ) → known kind ≡ false → known j ≡ true → e
 unknown_not kind j u k = by_cases (eqb kind j) (λ t. absurd (true≢false (sym k ∙ ap known (sym (eqb-true kind j t)) ∙ u))) (λ t. t)
 
 pub formed_unknown : (kind first second : ℕ) → known kind ≡ false → formed kind first second ≡ Refused 21
-unfolding formed known if◌then◌else◌
+unfolding formed known when◌then◌else◌
 formed_unknown kind first second u =
     sym (on_false _ (unknown_not kind 1 u refl) (on_false _ (unknown_not kind 2 u refl) (on_false _ (unknown_not kind 3 u refl)
     (on_false _ (unknown_not kind 4 u refl) (on_false _ (unknown_not kind 5 u refl) (on_false _ (unknown_not kind 6 u refl) refl))))))

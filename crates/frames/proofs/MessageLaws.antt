@@ -5,7 +5,7 @@ use mathlib.Core.Path.{◌≡◌, refl}
 use mathlib.Core.List.{◌++◌}
 use lib.ListN.{length, take}
 use Rattle.base.specs.Bytes.{word32, bytes32}
-use Rattle.base.specs.Choice.{if◌then◌else◌}
+use Rattle.base.specs.Choice.{when◌then◌else◌}
 use Rattle.base.proofs.Choices.{by_test}
 use Rattle.frames.specs.Messages.{kind_of, first_of, second_of, body_of, frame_of, fields_in}
 use Rattle.frames.specs.declared.Message.{Message}
@@ -20,7 +20,7 @@ fields_few kind =
 
 -- how long the frame of a message is
 pub frame_size : (m : Message) → length (frame_of m) ≡ 4 + 4 * fields_in (kind_of m)
-unfolding frame_of body_of fields_in if◌then◌else◌
+unfolding frame_of body_of fields_in when◌then◌else◌
 frame_size (ReadRequest r) = refl
 frame_size (WriteRequest r v) = refl
 frame_size (ReadAnswer w v) = refl
@@ -31,7 +31,7 @@ frame_size NotTaken = refl
 -- it is the start of three words: length, version and kind, and two fields
 pub frame_starts : (m : Message)
     → take (4 + 4 * fields_in (kind_of m)) (bytes32 (word32 0 (2 + 4 * fields_in (kind_of m)) 1 (kind_of m)) ++ (bytes32 (first_of m) ++ bytes32 (second_of m))) ≡ frame_of m
-unfolding frame_of body_of fields_in if◌then◌else◌
+unfolding frame_of body_of fields_in when◌then◌else◌
 frame_starts (ReadRequest r) = refl
 frame_starts (WriteRequest r v) = refl
 frame_starts (ReadAnswer w v) = refl

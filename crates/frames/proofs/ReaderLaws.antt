@@ -10,7 +10,7 @@ use lib.ListN.{length, take, drop, length-drop}
 use lib.Seq.{take_all}
 use denote.Ref.{Bor}
 use Rattle.base.specs.Bytes.{word_at}
-use Rattle.base.specs.Choice.{if◌then◌else◌}
+use Rattle.base.specs.Choice.{when◌then◌else◌}
 use Rattle.base.specs.Part.{IsPart}
 use Rattle.base.proofs.Cases.{by_cases}
 use Rattle.base.proofs.Choices.{on_true, on_false, chosen, by_test, both_false}
@@ -60,7 +60,7 @@ module _ (s : List ℕ) where
     parsed_20 t = said s (Refused 20) (on_false _ l (on_true _ t refl))
 
     pub parsed_formed : wrong_version s ≡ false → (p : Parsed) (kind first second : ℕ) → p ≡ formed kind first second → kind ≡ kind_byte s
-        → first ≡ (if leb 8 (length s) then word_at s 4 else 0) → second ≡ (if leb 12 (length s) then word_at s 8 else 0)
+        → first ≡ (when leb 8 (length s) then word_at s 4 else 0) → second ≡ (when leb 12 (length s) then word_at s 8 else 0)
         → (p ≡ parsed s) × (refusal_in p ≡ frame_refusal s)
     unfolding parsed field_at
     parsed_formed t p kind first second e k f g = said s p (on_false _ l (on_false _ t (rw (e, k, f, g))))

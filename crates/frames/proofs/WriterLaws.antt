@@ -9,7 +9,7 @@ use lib.Dec.{leb}
 use lib.ListN.{length, take, drop}
 use lib.Seq.{drop-drop}
 use Rattle.base.specs.Bytes.{word32, bytes32, with_word}
-use Rattle.base.specs.Choice.{if◌then◌else◌}
+use Rattle.base.specs.Choice.{when◌then◌else◌}
 use Rattle.base.proofs.ByteLaws.{word_stored}
 use Rattle.base.proofs.Choices.{on_true, on_false}
 use Rattle.base.proofs.WritingLaws.{no_size, buffer_kept, size_is, buffer_is}
@@ -52,7 +52,7 @@ module _ (b : List ℕ) (m : Message) where
         (none, (sized ∙ sym (size_is _ (frame_of m) b (sym none)), put ∙ sym (buffer_is _ (frame_of m) b (sym none))))
 
 -- words put one behind the other at the start of a buffer that has room for them: b₁, b₂ and b₃ are the buffer after each
-module _ (b b₁ : List ℕ) (fields head first second : ℕ) (h : 4 + 4 * fields ≤ length b) (e₁ : b₁ ≡ (if leb 4 (length b) then with_word b 0 head else b)) where
+module _ (b b₁ : List ℕ) (fields head first second : ℕ) (h : 4 + 4 * fields ≤ length b) (e₁ : b₁ ≡ (when leb 4 (length b) then with_word b 0 head else b)) where
   abbrev words : List ℕ
   words = take (4 + 4 * fields) (bytes32 head ++ (bytes32 first ++ bytes32 second)) ++ drop (4 + 4 * fields) b
 
@@ -63,7 +63,7 @@ module _ (b b₁ : List ℕ) (fields head first second : ℕ) (h : 4 + 4 * field
   unfolding with_word
   no_field z = let none : fields ≡ 0 = omega arith in rw none one.0
 
-  module _ (l : 1 ≤ fields) (b₂ : List ℕ) (e₂ : b₂ ≡ (if leb 8 (length b₁) then with_word b₁ 4 first else b₁)) where
+  module _ (l : 1 ≤ fields) (b₂ : List ℕ) (e₂ : b₂ ≡ (when leb 8 (length b₁) then with_word b₁ 4 first else b₁)) where
     two : (b₂ ≡ with_word b₁ 4 first) × (length b₂ ≡ length b₁)
     two = word_stored b₁ b₂ 4 first (omega (arith, one.1)) e₂
 
@@ -74,7 +74,7 @@ module _ (b b₁ : List ℕ) (fields head first second : ℕ) (h : 4 + 4 * field
     pub one_field : fields < 2 → b₂ ≡ words
     one_field z = let single : fields ≡ 1 = omega arith in rw single two_is
 
-    pub two_fields : 2 ≤ fields → fields ≤ 2 → (b₃ : List ℕ) → b₃ ≡ (if leb 12 (length b₂) then with_word b₂ 8 second else b₂) → b₃ ≡ words
+    pub two_fields : 2 ≤ fields → fields ≤ 2 → (b₃ : List ℕ) → b₃ ≡ (when leb 12 (length b₂) then with_word b₂ 8 second else b₂) → b₃ ≡ words
     unfolding with_word
     two_fields k z b₃ e₃ =
         let both : fields ≡ 2 = omega arith in

@@ -1,6 +1,6 @@
 -- Document 02, wish 3, "Frames on the wire": the messages between stations and boxes, and the frame of each.
 use Rattle.std.specs.Prelude.{ℕ, Bool, false, List, [], ◌∷◌, ◌++◌, eqb, leb, ltb, length, get_or}
-use Rattle.base.specs.Choice.{if◌then◌else◌}
+use Rattle.base.specs.Choice.{when◌then◌else◌}
 use Rattle.base.specs.Bytes.{bytes16, bytes32}
 use Rattle.frames.specs.declared.Message.{Message}
 use Rattle.frames.specs.declared.Message.TheVariants.{ReadRequest, WriteRequest, ReadAnswer, Outranked, Taken, NotTaken}
@@ -54,11 +54,11 @@ wrong_message NotTaken = false
 
 -- the kinds by their numbers: 1 to 6, and how many fields each has
 unfoldable pub known : (kind : ℕ) → Bool
-known kind = if ltb kind 1 then false else leb kind 6
+known kind = when ltb kind 1 then false else leb kind 6
 
 unfoldable pub fields_in : (kind : ℕ) → ℕ
 fields_in kind =
-    if eqb kind 1 then 1
-    else if eqb kind 2 then 2
-    else if eqb kind 3 then 2
+    when eqb kind 1 then 1
+    else when eqb kind 2 then 2
+    else when eqb kind 3 then 2
     else 0

@@ -1,6 +1,6 @@
 -- Document 02, wish 3: the reader of frames. It reads the frame at the start of an input of any bytes, s, and hands back what stands behind.
 use Rattle.std.specs.Prelude.{ℕ, ◌+◌, ◌*◌, Bool, true, false, not, List, [], eqb, leb, ltb, length, get_or, drop}
-use Rattle.base.specs.Choice.{if◌then◌else◌}
+use Rattle.base.specs.Choice.{when◌then◌else◌}
 use Rattle.base.specs.Bytes.{word16, word_at}
 use Rattle.frames.specs.Messages.{kind_of, first_of, second_of, wrong_message, known, fields_in}
 use Rattle.frames.specs.declared.Message.{Message}
@@ -24,19 +24,19 @@ end_of s = 2 + stated_length s
 
 -- a field, the number whose 4 bytes stand from a place on; past the input 0, where no field of a whole frame stands
 unfoldable pub field_at : (s : List ℕ) (at : ℕ) → ℕ
-field_at s at = if leb (at + 4) (length s) then word_at s at else 0
+field_at s at = when leb (at + 4) (length s) then word_at s at else 0
 
 -- a length that is "not the kind's": not that of version, kind and the kind's fields. Of "an unknown kind .. any length of 2 or more within the
 -- input is right".
 unfoldable pub wrong_for : (kind stated : ℕ) → Bool
-wrong_for kind stated = if known kind then not (eqb stated (2 + 4 * fields_in kind)) else false
+wrong_for kind stated = when known kind then not (eqb stated (2 + 4 * fields_in kind)) else false
 
 -- "19 for a length missing, not the kind's or past the input, or a frame too short for a kind"
 unfoldable pub wrong_length : (s : List ℕ) → Bool
 wrong_length s =
-    if ltb (length s) 2 then true
-    else if ltb (length s) (end_of s) then true
-    else if ltb (stated_length s) 2 then true
+    when ltb (length s) 2 then true
+    else when ltb (length s) (end_of s) then true
+    else when ltb (stated_length s) 2 then true
     else wrong_for (kind_byte s) (stated_length s)
 
 -- "then 20 for another version"
@@ -45,18 +45,18 @@ wrong_version s = not (eqb (version_in s) 1)
 
 -- the message, if it is not one that is turned away: "then 21 for .. a rank .. of 0 in a request"
 unfoldable pub checked : (m : Message) → Parsed
-checked m = if wrong_message m then Refused 21 else Accepted m
+checked m = when wrong_message m then Refused 21 else Accepted m
 
 -- the message of a kind, given by its number, with these fields; a field that the kind does not have is not looked at. "then 21 for an
 -- unknown kind".
 unfoldable pub formed : (kind first second : ℕ) → Parsed
 formed kind first second =
-    if eqb kind 1 then checked (ReadRequest first)
-    else if eqb kind 2 then checked (WriteRequest first second)
-    else if eqb kind 3 then checked (ReadAnswer first second)
-    else if eqb kind 4 then checked Outranked
-    else if eqb kind 5 then checked Taken
-    else if eqb kind 6 then checked NotTaken
+    when eqb kind 1 then checked (ReadRequest first)
+    else when eqb kind 2 then checked (WriteRequest first second)
+    else when eqb kind 3 then checked (ReadAnswer first second)
+    else when eqb kind 4 then checked Outranked
+    else when eqb kind 5 then checked Taken
+    else when eqb kind 6 then checked NotTaken
     else Refused 21
 
 -- the answer in numbers: the refusal, 0 where there is none; the kind and its fields, 0 where there are none
@@ -79,8 +79,8 @@ second_in (Accepted m) = second_of m
 -- "Turned away: 19 ..; then 20 ..; then 21"; otherwise the message
 unfoldable pub parsed : (s : List ℕ) → Parsed
 parsed s =
-    if wrong_length s then Refused 19
-    else if wrong_version s then Refused 20
+    when wrong_length s then Refused 19
+    else when wrong_version s then Refused 20
     else formed (kind_byte s) (field_at s 4) (field_at s 8)
 
 -- the number that an input is turned away with, 0 where it is not
@@ -90,7 +90,7 @@ frame_refusal s = refusal_in (parsed s)
 -- "The reader hands back the part behind the frame, empty when refused": at which byte of the input it starts, and its bytes. The empty
 -- part of a refused input lies at its start.
 unfoldable pub behind_start : (s : List ℕ) → ℕ
-behind_start s = if eqb (frame_refusal s) 0 then end_of s else 0
+behind_start s = when eqb (frame_refusal s) 0 then end_of s else 0
 
 unfoldable pub behind_of : (s : List ℕ) → List ℕ
-behind_of s = if eqb (frame_refusal s) 0 then drop (end_of s) s else []
+behind_of s = when eqb (frame_refusal s) 0 then drop (end_of s) s else []

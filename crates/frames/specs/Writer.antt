@@ -1,6 +1,6 @@
 -- Document 02, wish 3: the writer of frames.
 use Rattle.std.specs.Prelude.{ℕ, List, ltb, length}
-use Rattle.base.specs.Choice.{if◌then◌else◌}
+use Rattle.base.specs.Choice.{when◌then◌else◌}
 use Rattle.base.specs.Writing.{size_written, buffer_written}
 use Rattle.frames.specs.Messages.{frame_of, wrong_message}
 use Rattle.frames.specs.declared.Message.{Message}
@@ -8,8 +8,8 @@ use Rattle.frames.specs.declared.Message.{Message}
 -- "The writer gives 21, then 18": 18 where a buffer of `room` bytes is shorter than the frame; 0 where the frame is written
 unfoldable pub write_refusal : (room : ℕ) (m : Message) → ℕ
 write_refusal room m =
-    if wrong_message m then 21
-    else if ltb room (length (frame_of m)) then 18
+    when wrong_message m then 21
+    else when ltb room (length (frame_of m)) then 18
     else 0
 
 -- "The writer returns the size"; 0 where nothing is written

@@ -134,9 +134,9 @@ module _ {f : Floor} (a b : ℕ) (y : Lengths f) (z : Sound f) where
           write = (row_at f a).write;
         }
 
-    row_asked : (x : ReadDone) → (is_held x.answer ≡ true → ((answer_of x).rank ≡ held.write) × ((answer_of x).value ≡ held.value))
+    row_asked_lem : (x : ReadDone) → (is_held x.answer ≡ true → ((answer_of x).rank ≡ held.write) × ((answer_of x).value ≡ held.value))
         → machine.ReadServed b (is_held x.answer) (box_of held) (row_of (row_at f a)) (row_of (row_asked x))
-    row_asked x k = let stored = edit_set answer0 (row_at f a).answers b (answer_of x) (omega (arith, y.answers a (in_use_most f z a d.used), box_below)) in record {
+    row_asked_lem x k = let stored = edit_set answer0 (row_at f a).answers b (answer_of x) (omega (arith, y.answers a (in_use_most f z a d.used), box_below)) in record {
       same = record { station = refl; rank = refl; offer = refl };
       written = refl;
       read = served_asks (row_at f a).read b (is_held x.answer) (omega (arith, y.slots Read a (in_use_most f z a d.used), box_below));
@@ -151,7 +151,7 @@ module _ {f : Floor} (a b : ℕ) (y : Lengths f) (z : Sound f) where
     asked_moved : (x : ReadDone) → (is_held x.answer ≡ true → ((answer_of x).rank ≡ held.write) × ((answer_of x).value ≡ held.value))
         → RowMoved (panel own f) (panel own (floor_asked x)) a (machine.ReadServed b (is_held x.answer) (box_of held))
     asked_moved x k =
-        row_moved own f y z a refl d.used (row_asked x) (machine.ReadServed b (is_held x.answer) (box_of held)) (row_asked x k) (with_register own f b x.register).boxes f.stations
+        row_moved own f y z a refl d.used (row_asked x) (machine.ReadServed b (is_held x.answer) (box_of held)) (row_asked_lem x k) (with_register own f b x.register).boxes f.stations
 
     read_done : {x : ReadDone} → ReadCase held rank x → StepIn own f (floor_asked x) (machine.served Read a b (is_held x.answer))
     read_done (outranked h) =
@@ -209,9 +209,9 @@ heard_in_lem : (p : Phase) (b : ℕ) (w : concrete.Row) → HeardIn p b (row_of 
 heard_in_lem Read b w = record { same = record { station = refl; rank = refl; offer = refl }; written = refl; read = heard_asks w.read b; found = λ j. refl; write = refl }
 heard_in_lem Write b w = record { same = record { station = refl; rank = refl; offer = refl }; written = refl; read = refl; found = λ j. refl; write = heard_asks w.write b }
 
-asked_of : (p : Phase) (w : concrete.Row) (b : ℕ) → (slot_at (requests_of p w) b).stage ≡ Answered → ((machine.asked_of p (row_of w)).slot b).stage ≡ Answered
-asked_of Read w b h = h
-asked_of Write w b h = h
+asked_of_lem : (p : Phase) (w : concrete.Row) (b : ℕ) → (slot_at (requests_of p w) b).stage ≡ Answered → ((machine.asked_of p (row_of w)).slot b).stage ≡ Answered
+asked_of_lem Read w b h = h
+asked_of_lem Write w b h = h
 
 denied_in : (p : Phase) (w : concrete.Row) (n b : ℕ) → all_yes (requests_heard p w b) n ≡ false → machine.Denied n (machine.asked_of p (row_of (row_heard p w b)))
 denied_in Read w n b t = denied_asks (requests_heard Read w b) n t
@@ -240,7 +240,7 @@ module _ {f : Floor} (a b : ℕ) (o : Owned f) (y : Lengths f) (z : Sound f) whe
   heard_moved p h ss = row_moved of f y z a refl h (heard_row f p a b) (HeardIn p b) (heard_in_lem p b (row_at f a)) f.boxes ss
 
   heard_step : (p : Phase) → CanDeliver f p a b → StepIn of f (with_row f a (heard_row f p a b)) (machine.heard p a b)
-  heard_step p d = machine.hear (asked_of p (row_at f a) b (arrived p a b d)) (λ j. refl) (heard_moved p d.used f.stations) (λ j. refl)
+  heard_step p d = machine.hear (asked_of_lem p (row_at f a) b (arrived p a b d)) (λ j. refl) (heard_moved p d.used f.stations) (λ j. refl)
 
   abbrev seat_for : Phase → ℕ → Seat
   seat_for Read i = reading i
@@ -253,7 +253,7 @@ module _ {f : Floor} (a b : ℕ) (o : Owned f) (y : Lengths f) (z : Sound f) whe
   abort_step : (p : Phase) → CanDeliver f p a b → all_yes (requests_heard p (row_at f a) b) f.n ≡ false → StepIn of f (after_abort f a (heard_row f p a b)) (machine.aborted p a b)
   abort_step p d t =
       let m = heard_moved p d.used (set f.stations (row_at f a).station (with_state (owner_at f a) state.Idle)) in
-      machine.abort (asked_of p (row_at f a) b (arrived p a b d)) (λ j. refl) m
+      machine.abort (asked_of_lem p (row_at f a) b (arrived p a b d)) (λ j. refl) m
       (subst (λ (w : concrete.Row). machine.Denied f.n (machine.asked_of p (row_of w))) (sym (used_stored f y z a (heard_row f p a b) d.used)) (denied_in p (row_at f a) f.n b t))
       (seat_edit d.used (with_state (owner_at f a) state.Idle) refl refl)
 

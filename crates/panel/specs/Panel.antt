@@ -3,7 +3,7 @@
 use Rattle.std.specs.Prelude.{ℕ, ◌≡◌, Bool, List, get_or}
 use Rattle.suits.specs.Suits.{suit0}
 use Rattle.suits.specs.declared.Suit.{Suit}
-use Rattle.base.specs.Choice.{if◌then◌else◌}
+use Rattle.base.specs.Choice.{when◌then◌else◌}
 use Rattle.register.specs.Register.{is_of, is_held, rmw_read, rmw_write}
 use Rattle.register.specs.declared.Department.{Department}
 use Rattle.register.specs.declared.Department.TheVariants.{Sails, Canvas}
@@ -67,7 +67,7 @@ seat_in Gone = none
 
 -- a station of the department; the others have begun nothing in it
 unfoldable pub station_for : Department → seated.Station → Station
-station_for d x = if is_of d x.department then record { seat = seat_in x.state; last = x.last } else record { seat = none; last = 0 }
+station_for d x = when is_of d x.department then record { seat = seat_in x.state; last = x.last } else record { seat = none; last = 0 }
 
 -- the department d of the floor
 abbrev pub panel : Department → Floor → Machine Suit Suit

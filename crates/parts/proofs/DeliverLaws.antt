@@ -1,7 +1,7 @@
 -- A delivery, from the requests that the code took out of the row, the answer received and the row put together again.
 use Prim.Native.Nat.{ℕ}
 use mathlib.Core.Path.{◌≡◌, refl}
-use Rattle.base.specs.Choice.{if◌then◌else◌}
+use Rattle.base.specs.Choice.{when◌then◌else◌}
 use Rattle.requests.specs.Requests.{of_phase, received_from, verdict_of}
 use Rattle.requests.specs.declared.Phase.{Phase}
 use Rattle.requests.specs.declared.Phase.TheVariants.{Read, Write}
@@ -23,7 +23,7 @@ of_write p x e h = rw e h
 
 -- what the code decides by: h is the phase with the answer received, w the row with it
 abbrev pub delivered_by : (x : Parts) (p : Phase) (a : ℕ) (h : Requests) (w : Row) → Changed
-delivered_by x p a h w = if is_in p x.station.state a then heard_by x p a w (verdict_of p h x.n) else received_only x a w
+delivered_by x p a h w = when is_in p x.station.state a then heard_by x p a w (verdict_of p h x.n) else received_only x a w
 
 pub delivered_is : (x : Parts) (p : Phase) (a b : ℕ) {q h : Requests} {w : Row} → q ≡ requests_of p x.row → h ≡ received_from q b
     → w ≡ with_requests p x.row h → delivered_by x p a h w ≡ delivered x p a b
@@ -31,5 +31,5 @@ unfolding delivered
 delivered_is x p a b eq eh ew = rw (ew, eh, eq) refl
 
 -- the verdict that the code found
-pub heard_by : (x : Parts) (p : Phase) (a : ℕ) (w : Row) {u v : Verdict} {y : Changed} → v ≡ u → y ≡ heard_by x p a w v → y ≡ heard_by x p a w u
-heard_by x p a w e h = rw (← e) h
+pub heard_by_lem : (x : Parts) (p : Phase) (a : ℕ) (w : Row) {u v : Verdict} {y : Changed} → v ≡ u → y ≡ heard_by x p a w v → y ≡ heard_by x p a w u
+heard_by_lem x p a w e h = rw (← e) h

@@ -3,7 +3,7 @@ use Prim.Native.Nat.{ℕ, ◌+◌}
 use mathlib.Core.Path.{◌≡◌, refl, sym, ◌∙◌}
 use mathlib.Core.Bool.{Bool, true, false}
 use lib.Dec.{leb}
-use Rattle.base.specs.Choice.{if◌then◌else◌}
+use Rattle.base.specs.Choice.{when◌then◌else◌}
 use Rattle.base.proofs.Choices.{on_true, on_false, choice_either}
 use Rattle.requests.specs.Requests.{standing_of, is_waiting, is_on_the_way}
 use Rattle.requests.specs.declared.Phase.{Phase}
@@ -12,7 +12,7 @@ use Rattle.attempts.specs.Stations.{is_gone}
 use Rattle.parts.specs.Parts.{serve_in, deliver_in}
 use Rattle.parts.specs.declared.Parts.{Parts}
 
-module _ (x : Parts) (p : Phase) (a b : ℕ) (t : Bool) (e : t ≡ (if leb (x.first + x.used) a then true else leb x.n b)) where
+module _ (x : Parts) (p : Phase) (a b : ℕ) (t : Bool) (e : t ≡ (when leb (x.first + x.used) a then true else leb x.n b)) where
   pub serve_8 : t ≡ true → 8 ≡ serve_in x p a b
   unfolding serve_in
   serve_8 h = on_true _ (sym e ∙ h) refl ∙ choice_either _ _ _ _

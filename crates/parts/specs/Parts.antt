@@ -2,7 +2,7 @@
 -- private contracts. No promise rests on this file: what a step is on a floor stands in crates/floor/specs, and crates/floor/proofs/Joins
 -- shows that on a sound floor the two are the same.
 use Rattle.std.specs.Prelude.{ℕ, ◌+◌, max, Bool, true, false, eqb, leb}
-use Rattle.base.specs.Choice.{if◌then◌else◌}
+use Rattle.base.specs.Choice.{when◌then◌else◌}
 use Rattle.base.specs.Numbers.{rank_of}
 use Rattle.suits.specs.declared.Suit.{Suit}
 use Rattle.register.specs.declared.Register.{Register}
@@ -25,46 +25,46 @@ use Rattle.parts.specs.declared.Changed.{Changed}
 -- Refusals 7 to 14 and 23, 0 where the step is accepted.
 unfoldable pub begin_in : (x : Parts) (s round : ℕ) → ℕ
 begin_in x s round =
-    if leb x.m s then 8
-    else if is_gone x.station.state then 9
-    else if is_busy x.station.state then 10
-    else if eqb round 0 then 11
-    else if leb round x.station.last then 11
-    else if leb 128 x.next then 12
+    when leb x.m s then 8
+    else when is_gone x.station.state then 9
+    else when is_busy x.station.state then 10
+    else when eqb round 0 then 11
+    else when leb round x.station.last then 11
+    else when leb 128 x.next then 12
     else 0
 
 unfoldable pub serve_in : (x : Parts) (p : Phase) (a b : ℕ) → ℕ
 serve_in x p a b =
-    if leb (x.first + x.used) a then 8
-    else if leb x.n b then 8
-    else if x.away then 13
-    else if is_waiting (standing_of (requests_of p x.row) b) then 0
+    when leb (x.first + x.used) a then 8
+    else when leb x.n b then 8
+    else when x.away then 13
+    else when is_waiting (standing_of (requests_of p x.row) b) then 0
     else 14
 
 unfoldable pub deliver_in : (x : Parts) (p : Phase) (a b : ℕ) → ℕ
 deliver_in x p a b =
-    if leb (x.first + x.used) a then 8
-    else if leb x.n b then 8
-    else if is_gone x.station.state then 9
-    else if is_on_the_way (standing_of (requests_of p x.row) b) then 0
+    when leb (x.first + x.used) a then 8
+    else when leb x.n b then 8
+    else when is_gone x.station.state then 9
+    else when is_on_the_way (standing_of (requests_of p x.row) b) then 0
     else 14
 
 unfoldable pub stop_in : (x : Parts) (b : ℕ) → ℕ
 stop_in x b =
-    if leb x.n b then 8
-    else if x.away then 13
+    when leb x.n b then 8
+    else when x.away then 13
     else 0
 
 unfoldable pub leave_in : (x : Parts) (s : ℕ) → ℕ
 leave_in x s =
-    if leb x.m s then 8
-    else if is_gone x.station.state then 9
+    when leb x.m s then 8
+    else when is_gone x.station.state then 9
     else 0
 
 unfoldable pub return_in : (x : Parts) (b : ℕ) → ℕ
 return_in x b =
-    if leb x.n b then 8
-    else if x.away then 0
+    when leb x.n b then 8
+    else when x.away then 0
     else 23
 
 abbrev pub refusal_in : (x : Parts) (c : Command) → ℕ
@@ -150,7 +150,7 @@ heard_by x p a w No = aborted_by x a w
 
 unfoldable pub delivered : (x : Parts) (p : Phase) (a b : ℕ) → Changed
 delivered x p a b =
-    if is_in p x.station.state a then heard_by x p a (row_heard p x.row b) (verdict_of p (requests_heard p x.row b) x.n)
+    when is_in p x.station.state a then heard_by x p a (row_heard p x.row b) (verdict_of p (requests_heard p x.row b) x.n)
     else received_only x a (row_heard p x.row b)
 
 abbrev pub stopped_box : (x : Parts) (b : ℕ) → Changed
@@ -176,4 +176,4 @@ effect_in x Malformed = turned_back x 7
 
 -- the step, refused or accepted
 unfoldable pub change_in : (x : Parts) (c : Command) → Changed
-change_in x c = if eqb (refusal_in x c) 0 then effect_in x c else turned_back x (refusal_in x c)
+change_in x c = when eqb (refusal_in x c) 0 then effect_in x c else turned_back x (refusal_in x c)

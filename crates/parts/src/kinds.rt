@@ -1,6 +1,6 @@
 // The step on the parts that it looks at, by its kind.
 ghost use Rattle.std.specs.Prelude.{◌≡◌, ◌≤◌, leb};
-ghost use Rattle.base.specs.Choice.{if◌then◌else◌};
+ghost use Rattle.base.specs.Choice.{when◌then◌else◌};
 ghost use Rattle.parts.specs.Parts.{refusal_in, turned_back, effect_in, change_in};
 
 use crate::{Changed, Parts};
@@ -42,7 +42,7 @@ fn effect(x: Parts, c: Command) -> Changed
 
 // The step on the parts, refused or accepted. More than nine boxes are refusal 6, as on a floor.
 pub fn change(x: Parts, c: Command) -> Changed
-    ensures { result ≡ (if leb x.n 9 then change_in x c else turned_back x 6) }
+    ensures { result ≡ (when leb x.n 9 then change_in x c else turned_back x 6) }
 {
     if 9 < x.n {
         return Changed {

@@ -1,12 +1,12 @@
 -- The places of a floor's arrays that a command names: what the loop of a floor reads and stores. How long an array is, `limit`, is handed in.
 use Rattle.std.specs.Prelude.{ℕ, ltb}
-use Rattle.base.specs.Choice.{if◌then◌else◌}
+use Rattle.base.specs.Choice.{when◌then◌else◌}
 use Rattle.commands.specs.declared.Command.{Command}
 use Rattle.commands.specs.declared.Command.TheVariants.{Begin, Serve, Deliver, Stop, Leave, Return, Malformed}
 
 -- The place of an array that a number names. One past the end names none; its step is turned back with 8, whatever stands at place 0.
 unfoldable pub place_in : (limit x : ℕ) → ℕ
-place_in limit x = if ltb x limit then x else 0
+place_in limit x = when ltb x limit then x else 0
 
 -- The row, the box and the station that a command names, where a begin takes the row `next` and the row named belongs to `owner`. Where
 -- a command names none, place 0 is read and stored back.

@@ -8,7 +8,7 @@ use lib.Seq.{take_all}
 use borrow.Author.Tests.{eq-eqb, ne_eqb}
 use Rattle.base.proofs.Choices.{on_true, on_false}
 use Rattle.base.specs.Records.{records_in}
-use Rattle.base.specs.Choice.{if◌then◌else◌}
+use Rattle.base.specs.Choice.{when◌then◌else◌}
 use Rattle.base.specs.Numbers.{sizes_right}
 use Rattle.base.specs.Departments.{departments_wrong, not_departments, not_department}
 use Rattle.floor.specs.Floors.{department_from, stations_told, empty_floor, new_floor_of}
@@ -35,7 +35,7 @@ use Rattle.floor.specs.declared.Played.{Played}
 
 -- the new floor of one box and one station, sails
 one_by_one : (new_floor_of 1 1 (0 ∷ [])).floor ≡ empty_floor 1 1 []
-unfolding new_floor_of sizes_right departments_wrong not_departments not_department stations_told department_from if◌then◌else◌
+unfolding new_floor_of sizes_right departments_wrong not_departments not_department stations_told department_from when◌then◌else◌
 one_by_one = refl
 
 -- an accepted file's run

@@ -10,7 +10,7 @@ use native.Mathlib.Decide.{ℕ_discrete}
 use native.Mathlib.Omega.{arith}
 use lib.Dec.{eqb}
 use borrow.Author.Tests.{eq-eqb, ne_eqb}
-use Rattle.base.specs.Choice.{if◌then◌else◌}
+use Rattle.base.specs.Choice.{when◌then◌else◌}
 use Rattle.base.proofs.Choices.{on_true, on_false}
 use Rattle.base.specs.Mask.{set_bit}
 use Rattle.base.specs.Quorum.{Majority}
@@ -38,7 +38,7 @@ module _ {A : Type 0} where
 
   -- the boxes with f done at the box k
   abbrev at : ℕ → (Box A → Box A) → (ℕ → Box A) → ℕ → Box A
-  at k f x j = if eqb j k then f (x j) else x j
+  at k f x j = when eqb j k then f (x j) else x j
 
   edited : (k : ℕ) (f : Box A → Box A) (x : ℕ → Box A) (j : ℕ) → Edit x (at k f x) k f j
   edited k f x j = elim (ℕ_discrete j k) [
@@ -124,7 +124,7 @@ abbrev boxes0 : ℕ → Box ℕ
 boxes0 = at 1 (read_box 16) (at 0 (read_box 16) (empty 0))
 
 run0 : Run 3 ◌≡◌ Noted boxes0 history0
-unfolding if◌then◌else◌
+unfolding when◌then◌else◌
 run0 =
     let a = reads (reads (notes start 7) 16 0) 16 1 in
     issues a 16 7 1 0 0 0 0 0 (omega arith) (omega arith) (omega arith) (omega arith) (place 0 refl) (place 1 refl) (λ h. absurd (omega arith)) (place 2 refl) tt
@@ -137,7 +137,7 @@ abbrev boxes1 : ℕ → Box ℕ
 boxes1 = at 2 (write_box 17 9) (at 1 (write_box 17 9) (at 2 (read_box 17) (at 1 (read_box 17) boxes0)))
 
 run1 : Run 3 ◌≡◌ Noted boxes1 history1
-unfolding if◌then◌else◌
+unfolding when◌then◌else◌
 run1 =
     let a = reads (reads (notes run0 9) 17 1) 17 2 in
     let b = issues a 17 9 2 1 0 0 0 0 (omega arith) (omega arith) (omega arith) (omega arith) (place 0 refl) (place 1 refl) (λ h. absurd (omega arith)) (place 2 refl) (omega arith, tt) in
@@ -151,7 +151,7 @@ abbrev boxes2 : ℕ → Box ℕ
 boxes2 = at 2 (read_box 16) (at 0 (write_box 16 7) boxes1)
 
 run2 : Run 3 ◌≡◌ Noted boxes2 history2
-unfolding if◌then◌else◌
+unfolding when◌then◌else◌
 run2 = reads (refuses (refuses (takes run1 16 0 7 (omega arith) (omega arith) (place 6 refl)) 16 1 (omega arith)) 16 2 (omega arith)) 16 2
 
 -- a third attempt, of rank 33, offers 5, reads boxes 0 and 1, and issues the value of the higher answer
@@ -162,7 +162,7 @@ abbrev boxes3 : ℕ → Box ℕ
 boxes3 = at 1 (read_box 33) (at 0 (read_box 33) boxes2)
 
 run3 : Run 3 ◌≡◌ Noted boxes3 history3
-unfolding if◌then◌else◌
+unfolding when◌then◌else◌
 run3 =
     let a = reads (reads (notes run2 5) 33 0) 33 1 in
     issues a 33 9 1 0 17 16 9 7 (omega arith) (omega arith) (omega arith) (omega arith) (place 0 refl) (place 1 refl) (λ h. refl) (place 12 refl) (omega arith, (omega arith, tt))
@@ -178,7 +178,7 @@ abbrev history4 : List (Event ℕ ℕ)
 history4 = nack 18 1 ∷ history3
 
 run4 : Run 3 ◌≡◌ Noted boxes3 history4
-unfolding if◌then◌else◌
+unfolding when◌then◌else◌
 run4 = tells run3 18 1 (omega arith)
 
 pub outranked : Outranked history4 18 1
@@ -205,7 +205,7 @@ abbrev states1 : ℕ → Box (List ℕ)
 states1 = at 1 (write_box 1 (1 ∷ [])) (at 0 (write_box 1 (1 ∷ [])) (at 1 (read_box 1) (at 0 (read_box 1) (empty []))))
 
 object1 : ObjectRun states1 log1
-unfolding if◌then◌else◌
+unfolding when◌then◌else◌
 object1 =
     let a = reads (reads (notes started 1) 1 0) 1 1 in
     let b = issues a 1 (1 ∷ []) 1 0 0 0 [] [] (omega arith) (omega arith) (omega arith) (omega arith) (place 0 refl) (place 1 refl) (λ h. absurd (omega arith))
@@ -220,7 +220,7 @@ abbrev states2 : ℕ → Box (List ℕ)
 states2 = at 2 (write_box 2 (1 ∷ 2 ∷ [])) (at 1 (write_box 2 (1 ∷ 2 ∷ [])) (at 2 (read_box 2) (at 1 (read_box 2) states1)))
 
 object2 : ObjectRun states2 log2
-unfolding if◌then◌else◌
+unfolding when◌then◌else◌
 object2 =
     let a = reads (reads (notes object1 2) 2 1) 2 2 in
     let b = issues a 2 (1 ∷ 2 ∷ []) 1 2 1 0 (1 ∷ []) [] (omega arith) (omega arith) (omega arith) (omega arith) (place 1 refl) (place 0 refl) (λ h. (2 ∷ [], refl))

@@ -1,7 +1,7 @@
 -- Document 01, "The box routine (Figure 3)", and wish 2 of document 02: one ranked register, its read and its write; and the box that
 -- keeps one for each department (wish 6).
 use Rattle.std.specs.Prelude.{ℕ, max, Bool, true, false, eqb, leb, ltb}
-use Rattle.base.specs.Choice.{if◌then◌else◌}
+use Rattle.base.specs.Choice.{when◌then◌else◌}
 use Rattle.suits.specs.Suits.{suit0}
 use Rattle.suits.specs.declared.Suit.{Suit}
 use Rattle.register.specs.declared.Department.{Department}
@@ -45,13 +45,13 @@ box_with department x register away =
 
 -- Wish 2: "A box with a read or write rank above r". Equal ranks are not above.
 unfoldable pub outranks : (x : Register) (rank : ℕ) → Bool
-outranks x rank = if ltb rank x.read then true else ltb rank x.write
+outranks x rank = when ltb rank x.read then true else ltb rank x.write
 
 -- "Read with rank r: the read rank becomes the larger of itself and r. The answer is the write rank and the value." (rmw-read) Wish 2: "A
 -- box with a read or write rank above r answers a read "outranked" and changes nothing".
 unfoldable pub rmw_read : (x : Register) (rank : ℕ) → ReadDone
 rmw_read x rank =
-    if outranks x rank then record { register = x; answer = Outranked }
+    when outranks x rank then record { register = x; answer = Outranked }
     else record { register = record { read = max x.read rank; write = x.write; value = x.value }; answer = Held x.write x.value }
 
 abbrev pub is_held : (answer : ReadAnswer) → Bool
@@ -74,13 +74,13 @@ value_in Outranked = suit0
 
 -- "if read rank ≤ r and write rank < r"
 unfoldable pub takes : (x : Register) (rank : ℕ) → Bool
-takes x rank = if leb x.read rank then ltb x.write rank else false
+takes x rank = when leb x.read rank then ltb x.write rank else false
 
 -- "Write with rank r, revision v: if read rank ≤ r and write rank < r, the write rank becomes r, the value v, and the answer is
 -- "taken". Otherwise nothing changes and the answer is "not taken". A write never changes the read rank." (rmw-write)
 unfoldable pub rmw_write : (x : Register) (rank : ℕ) (revision : Suit) → WriteDone
 rmw_write x rank revision =
-    if takes x rank then record { register = record { read = x.read; write = rank; value = revision }; taken = true }
+    when takes x rank then record { register = record { read = x.read; write = rank; value = revision }; taken = true }
     else record { register = x; taken = false }
 
 -- Wish 7: "A box holds nothing exactly while its write rank is 0", whatever its value: the paper's undefined value. The one place that says

@@ -12,7 +12,7 @@ use lib.Seq.{set_out}
 use borrow.Author.Tests.{eq-eqb, ne_eqb}
 use mir.Val.{Val}
 use denote.Laws.{Is}
-use Rattle.base.specs.Choice.{if◌then◌else◌}
+use Rattle.base.specs.Choice.{when◌then◌else◌}
 use Rattle.base.specs.Mask.{bit, count_below}
 use Rattle.base.specs.Quorum.{indicator}
 use Rattle.base.proofs.Choices.{on_true, on_false, by_test}
@@ -45,7 +45,7 @@ module _ (q : Requests) (vs : List Val) (g : Is the_row q vs) where
   count n = count_below q.heard n
 
   abbrev Settled : ℕ → Type 0
-  Settled n = (count 9 ≤ count n) × (all_yes q n ≡ (if eqb (count n) (count 9) then all_yes q 9 else false))
+  Settled n = (count 9 ≤ count n) × (all_yes q n ≡ (when eqb (count n) (count 9) then all_yes q 9 else false))
 
   one_more : (n : ℕ) → 9 ≤ n → (t : Bool) → heard_from q n ≡ t → Settled n → Settled (suc n)
   unfolding all_yes still_yes
@@ -58,7 +58,7 @@ module _ (q : Requests) (vs : List Val) (g : Is the_row q vs) where
   one_more n h false e s =
       let k : count (suc n) ≡ count n = omega (arith, count_suc q.heard n, ap indicator e) in (
         omega (arith, s.0),
-        sym (on_false _ e refl) ∙ s.1 ∙ ap (λ (m : ℕ). if eqb m (count 9) then all_yes q 9 else false) (sym k),
+        sym (on_false _ e refl) ∙ s.1 ∙ ap (λ (m : ℕ). when eqb m (count 9) then all_yes q 9 else false) (sym k),
       )
 
   settled : (n : ℕ) → 9 ≤ n → Settled n

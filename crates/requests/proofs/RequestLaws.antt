@@ -9,7 +9,7 @@ use lib.Dec.{ltb}
 use lib.ListN.{length, get_or, length-set}
 use lib.Seq.{set_out, get_or-set_same, get_or-set_other}
 use borrow.Author.Tests.{ltb-true, ltb-false, eqb-true, eq-eqb, ne_eqb}
-use Rattle.base.specs.Choice.{if◌then◌else◌}
+use Rattle.base.specs.Choice.{when◌then◌else◌}
 use Rattle.base.specs.Numbers.{quorum}
 use Rattle.base.proofs.Choices.{on_true, on_false, by_test, both_true}
 use Rattle.base.specs.Mask.{count_below}
@@ -103,7 +103,7 @@ module _ (h : Requests) (n : ℕ) where
 
 -- One more answer.
 still_means : (before heard : Bool) (s : Slot) → still_yes before heard s ≡ true → (before ≡ true) × (heard ≡ true → s.ok ≡ true)
-unfolding still_yes if◌then◌else◌
+unfolding still_yes when◌then◌else◌
 still_means before true s e = let p = both_true s.ok before e in (p.1, λ _. p.0)
 still_means before false s e = (e, λ q. clash q refl)
 

@@ -1,6 +1,6 @@
 -- Document 01, "The floor": of one phase of an attempt, for each box where its request stands, and the answers that were received.
 use Rattle.std.specs.Prelude.{ℕ, zero, suc, List, [], Bool, true, false, get_or, set, replicate, eqb}
-use Rattle.base.specs.Choice.{if◌then◌else◌}
+use Rattle.base.specs.Choice.{when◌then◌else◌}
 use Rattle.base.specs.Numbers.{quorum}
 use Rattle.base.specs.Mask.{bit, set_bit, count_below}
 use Rattle.requests.specs.declared.Phase.{Phase}
@@ -51,7 +51,7 @@ not_received Waiting = waiting
 not_received Answered = on_the_way
 
 unfoldable pub standing : (stage : Stage) (mask box : ℕ) → Standing
-standing stage mask box = if bit mask box then received else not_received stage
+standing stage mask box = when bit mask box then received else not_received stage
 
 abbrev pub standing_of : (q : Requests) (box : ℕ) → Standing
 standing_of q box = standing (slot_at q box).stage q.heard box
@@ -94,7 +94,7 @@ at_quorum q n = eqb (count_below q.heard n) (quorum n)
 
 -- one answer more, if it was received
 unfoldable pub still_yes : (before heard : Bool) (slot : Slot) → Bool
-still_yes before heard slot = if heard then (if slot.ok then before else false) else before
+still_yes before heard slot = when heard then (when slot.ok then before else false) else before
 
 -- "all q say taken"; none "received from a box below n is outranked": each of the first k boxes whose answer was received said yes
 unfoldable pub all_yes : (q : Requests) (k : ℕ) → Bool
@@ -104,11 +104,11 @@ all_yes q (suc k) = still_yes (all_yes q k) (heard_from q k) (slot_at q k)
 -- What the answers received come to. Of reads, wish 2: "A reading station aborts at a read answer of its current attempt if any received
 -- from a box below n is outranked", however few were received; otherwise the phase ends "When the q-th read answer" is.
 unfoldable pub read_verdict : (q : Requests) (n : ℕ) → Verdict
-read_verdict q n = if all_yes q n then (if at_quorum q n then Yes else Open) else No
+read_verdict q n = when all_yes q n then (when at_quorum q n then Yes else Open) else No
 
 -- Of writes: "When the q-th write answer reaches a writing station, it decides if all q say taken; otherwise it aborts".
 unfoldable pub write_verdict : (q : Requests) (n : ℕ) → Verdict
-write_verdict q n = if at_quorum q n then (if all_yes q n then Yes else No) else Open
+write_verdict q n = when at_quorum q n then (when all_yes q n then Yes else No) else Open
 
 abbrev pub verdict_of : (phase : Phase) (q : Requests) (n : ℕ) → Verdict
 verdict_of phase q n = of_phase phase (read_verdict q n) (write_verdict q n)

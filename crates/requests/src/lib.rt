@@ -3,7 +3,7 @@
 #![tactic(auto)]
 
 ghost use Rattle.std.specs.Prelude.{◌≡◌, ◌≤◌, ltb};
-ghost use Rattle.base.specs.Choice.{if◌then◌else◌};
+ghost use Rattle.base.specs.Choice.{when◌then◌else◌};
 ghost use Rattle.requests.specs.Requests.{none_issued, standing_of, is_waiting, is_on_the_way, issued_to, served_at, received_from, heard_from, at_quorum, still_yes, all_yes, read_verdict, write_verdict, verdict_of};
 
 mod masks;
@@ -107,7 +107,7 @@ pub fn served(q: Requests, b: u8, ok: bool) -> Requests
 
 // The answer of box b is received. From box 9 on nothing is received.
 pub fn received(q: Requests, b: u8) -> Requests
-    ensures { result ≡ (if ltb b 9 then received_from q b else q) }
+    ensures { result ≡ (when ltb b 9 then received_from q b else q) }
 {
     let mut g = q;
     if b < 9 {

@@ -6,7 +6,7 @@ use mathlib.Core.Bool.{Bool, true, false}
 use mathlib.Core.List.{List, [], ◌∷◌}
 use lib.Dec.{leb}
 use borrow.Author.Tests.{lt-leb, le-leb}
-use Rattle.base.specs.Choice.{if◌then◌else◌}
+use Rattle.base.specs.Choice.{when◌then◌else◌}
 use Rattle.base.specs.Records.{record_at, records_from}
 use Rattle.base.proofs.Cases.{clash, by_cases}
 use Rattle.base.proofs.Choices.{on_true, on_false}
@@ -34,7 +34,7 @@ pub goes_accepted : (until : Until) (refused ends : Bool) → stops_by until ref
 goes_accepted until refused ends e = by_cases refused (λ t. clash (refused_stops until refused ends t) e) (λ t. t)
 
 -- with a record left, the step is the last where the run ends behind it
-some_left : (left : ℕ) (t : Bool) → (if leb (suc left) 0 then true else t) ≡ t
+some_left : (left : ℕ) (t : Bool) → (when leb (suc left) 0 then true else t) ≡ t
 some_left left t = sym (on_false true (lt-leb (suc left) 0 (omega arith)) refl)
 
 module _ {F C O R : Type 0} (refuses ends : O → Bool) (read : List ℕ → C) (next : F → C → F) (says : F → C → O) (made : F → ℕ → O → R)
@@ -64,14 +64,14 @@ module _ {F C O R : Type 0} (refuses ends : O → Bool) (read : List ℕ → C) 
       stopped_run _ rs (refused_stops until _ _ t) (ap₂ (λ (g : F) (n : ℕ). made g n (says f c)) (sym same) (on_true _ t refl))
 
   -- or no record is left; `left` records are left, the next of them at the place `at` of the bytes l
-  pub run_over : (left : ℕ) (l : List ℕ) (at : ℕ) → refuses (says f c) ≡ false → (if leb left 0 then true else Stops) ≡ true
+  pub run_over : (left : ℕ) (l : List ℕ) (at : ℕ) → refuses (says f c) ≡ false → (when leb left 0 then true else Stops) ≡ true
       → made (next f c) (k + 1) (says f c) ≡ run (records_from left l at)
   unfolding ran_from records_from
   run_over zero l at t e = accepted_ran t
   run_over (suc left) l at t e = stopped_run _ (record_at l at ∷ records_from left l (at + 8)) (sym (some_left left _) ∙ e) (accepted_ran t)
 
   -- the run goes on
-  pub run_goes_on : (left : ℕ) (l : List ℕ) (at : ℕ) → (if leb left 0 then true else Stops) ≡ false
+  pub run_goes_on : (left : ℕ) (l : List ℕ) (at : ℕ) → (when leb left 0 then true else Stops) ≡ false
       → ran_from refuses ends read next says made until (k + 1) (next f c) (read (record_at l at)) (records_from (left - 1) l (at + 8)) ≡ run (records_from left l at)
   unfolding ran_from records_from
   run_goes_on zero l at e = clash (sym (on_true Stops (le-leb 0 0 (omega arith)) refl)) e

@@ -3,7 +3,7 @@
 #![tactic(auto)]
 
 ghost use Rattle.std.specs.Prelude.{◌≡◌, true, leb, get_or, replicate};
-ghost use Rattle.base.specs.Choice.{if◌then◌else◌};
+ghost use Rattle.base.specs.Choice.{when◌then◌else◌};
 ghost use Rattle.base.specs.Records.{records_in};
 ghost use Rattle.runs.specs.Runs.{stops_by, refusal_by};
 
@@ -29,7 +29,7 @@ pub fn stops(until: Until, refused: bool, ends: bool) -> bool
 
 // The step was the last of its run: no record is left, or the run ends behind what it said.
 pub fn over(left: usize, until: Until, refused: bool, ends: bool) -> bool
-    ensures { result ≡ if leb left 0 then true else stops_by until refused ends }
+    ensures { result ≡ when leb left 0 then true else stops_by until refused ends }
 {
     if left <= 0 {
         return true;

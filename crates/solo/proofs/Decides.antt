@@ -9,7 +9,7 @@ use mathlib.Core.List.{List, [], ◌∷◌, ◌++◌}
 use lib.ListN.{length, take}
 use lib.Seq.{length-take-le}
 use Rattle.suits.specs.declared.Suit.{Suit}
-use Rattle.base.specs.Choice.{if◌then◌else◌}
+use Rattle.base.specs.Choice.{when◌then◌else◌}
 use Rattle.base.specs.Numbers.{quorum, rank_of}
 use Rattle.base.proofs.Cases.{clash}
 use Rattle.base.proofs.Choices.{by_test}
@@ -84,8 +84,8 @@ module _ (f : Floor) (s : ℕ) (v : Suit) (highest : Bool) (z : Sound f) (l : Le
   begins : apply_of f (Begin s round v) ≡ stepped begun_floor (Begun (row_taken f s))
   begins = begin_accepted f z s round v can
 
-  new_row : row_at begun_floor (row_taken f s) ≡ new_row f.n s round v
-  new_row = row_stored f l z (row_taken f s) (new_row f.n s round v) can.row
+  new_row_lem : row_at begun_floor (row_taken f s) ≡ new_row f.n s round v
+  new_row_lem = row_stored f l z (row_taken f s) (new_row f.n s round v) can.row
 
   begun_driven : Driven attempt Read 0 begun_floor
   unfolding new_row
@@ -94,22 +94,22 @@ module _ (f : Floor) (s : ℕ) (v : Suit) (highest : Bool) (z : Sound f) (l : Le
     lengths = subst (λ (x : Stepped). Lengths x.floor) begins (apply_lengths f (Begin s round v) l);
     size = refl;
     begun = taken_use f s round v can.row;
-    owner = ap (λ (w : Row). w.station) new_row;
-    rank = ap (λ (w : Row). w.rank) new_row;
+    owner = ap (λ (w : Row). w.station) new_row_lem;
+    rank = ap (λ (w : Row). w.rank) new_row_lem;
     boxes = λ j. let own = next_own f (department_at f s) can.row in record { away = refl; read = λ i. rw own (low j i).0; write = λ i _. rw own (low j i).1 };
     state = ap (λ (x : Station). x.state) (station_stored f l z s _ can.station);
   }
 
   begun_reads : RequestsAt attempt 0 0 (row_at begun_floor (row_taken f s)).read
   unfolding new_row
-  begun_reads = rw new_row (all_wait f.n _ _ (λ j h. ap (λ (x : Slot). x.stage) (wait_below f.n z.box_most j h)))
+  begun_reads = rw new_row_lem (all_wait f.n _ _ (λ j h. ap (λ (x : Slot). x.stage) (wait_below f.n z.box_most j h)))
 
   rest_driven : (bs : List ℕ) → length bs ≡ quorum f.n → Ascending attempt 0 bs → Leads attempt 1 begun_floor (exchanges Read (row_taken f s) bs ++ exchanges Write (row_taken f s) bs)
   rest_driven [] h u = absurd (omega arith)
   rest_driven (b ∷ bs) h u = both_driven attempt bs b h u begun_floor (record { floor = begun_driven; requests = begun_reads })
 
   run_ends : AtEnd attempt (run_of End f (begin_of f s v) (exchanges_of f s))
-  unfolding exchanges_of lowest stops_by if◌then◌else◌
+  unfolding exchanges_of lowest stops_by when◌then◌else◌
   run_ends =
       step_on attempt 0 f begun_floor (Begin s round v) (Begun (row_taken f s)) begins _ refl
       (rest_driven (asked_of f) (length-take-le (quorum f.n) (answering f) enough)
@@ -153,7 +153,7 @@ module _ (f : Floor) (s : ℕ) (v : Suit) (l : Lengths f) where
   begin = Begin s (round_of f s) v
 
   run_back : (k : ℕ) (rs : List (List ℕ)) → apply_of f begin ≡ refused f k → of_run (run_of End f (begin_of f s v) rs) ≡ turned_away f k
-  unfolding ran_from stops_by if◌then◌else◌
+  unfolding ran_from stops_by when◌then◌else◌
   run_back k [] e = rw (decode_encode begin, e)
   run_back k (r ∷ rs) e = rw (decode_encode begin, e)
 

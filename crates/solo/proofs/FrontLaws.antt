@@ -10,7 +10,7 @@ use Rattle.suits.specs.declared.Suit.{Suit}
 use Rattle.base.specs.Numbers.{quorum}
 use Rattle.base.proofs.Choices.{on_true, on_false, by_test, passed, choice_ap}
 use Rattle.commands.specs.Outcomes.{number_of, value_of}
-use Rattle.base.specs.Choice.{if◌then◌else◌}
+use Rattle.base.specs.Choice.{when◌then◌else◌}
 use Rattle.attempts.specs.Stations.{is_gone, is_busy}
 use Rattle.attempts.specs.declared.State.{State}
 use Rattle.attempts.proofs.StationTests.{is_idle}
@@ -75,7 +75,7 @@ solo_turned f s =
     p : State
     p = (station_at f s).state
 
-    choose : (t : Bool) {x y : ℕ} → (t ≡ true → TurnedBy f s x) → (t ≡ false → TurnedBy f s y) → TurnedBy f s (if t then x else y)
+    choose : (t : Bool) {x y : ℕ} → (t ≡ true → TurnedBy f s x) → (t ≡ false → TurnedBy f s y) → TurnedBy f s (when t then x else y)
     choose t {x} {y} = by_test (TurnedBy f s) t x y
 
 module _ (f : Floor) (s : ℕ) (v : Suit) where
@@ -89,13 +89,13 @@ module _ (f : Floor) (s : ℕ) (v : Suit) where
   solo_driven e = sym (on_true _ (eq-eqb _ _ e) refl)
 
   -- its number and its value
-  pub solo_number : number_of (solo_of f s v).outcome ≡ solo_number f s v
+  pub solo_number_lem : number_of (solo_of f s v).outcome ≡ solo_number f s v
   unfolding solo_of solo_number
-  solo_number = choice_ap (λ (d : Solo). number_of d.outcome) _ _ _
+  solo_number_lem = choice_ap (λ (d : Solo). number_of d.outcome) _ _ _
 
-  pub solo_value : value_of (solo_of f s v).outcome ≡ solo_value f s v
+  pub solo_value_lem : value_of (solo_of f s v).outcome ≡ solo_value f s v
   unfolding solo_of solo_value
-  solo_value = choice_ap (λ (d : Solo). value_of d.outcome) _ _ _
+  solo_value_lem = choice_ap (λ (d : Solo). value_of d.outcome) _ _ _
 
 module _ (f : Floor) (s : ℕ) where
   pub refusal_unsound : sound_of f ≡ false → solo_refusal f s ≡ 6

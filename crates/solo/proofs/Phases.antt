@@ -7,7 +7,7 @@ use mathlib.Core.Bool.{true, false}
 use mathlib.Core.List.{List, [], ◌∷◌, ◌++◌, append-nil}
 use lib.ListN.{length, get_or}
 use Rattle.suits.specs.declared.Suit.{Suit}
-use Rattle.base.specs.Choice.{if◌then◌else◌}
+use Rattle.base.specs.Choice.{when◌then◌else◌}
 use Rattle.base.specs.Numbers.{quorum}
 use Rattle.base.proofs.Cases.{clash, by_cases, not_true_false}
 use Rattle.base.proofs.Choices.{by_test}
@@ -58,7 +58,7 @@ module _ (t : Attempt) (c : ℕ) (g h : Floor) (k : Command) (o : Outcome) (e : 
   step_on (r ∷ rs) s p = rw (decode_encode k, e) (by_test (AtEnd t) (stops_at End o) _ _ (λ i. clash i s) (λ _. p))
 
   -- one behind which it ends
-  counted : is_refused o ≡ false → Over t o (c + 1) → Over t o (if is_refused o then c else c + 1)
+  counted : is_refused o ≡ false → Over t o (c + 1) → Over t o (when is_refused o then c else c + 1)
   counted a s = by_test (Over t o) (is_refused o) c (c + 1) (λ i. clash i a) (λ _. s)
 
   step_last : (rs : List (List ℕ)) → is_refused o ≡ false → stops_at End o ≡ true → Over t o (c + 1) → Leads t c g (encode_of k ∷ rs)
@@ -84,13 +84,13 @@ module _ (t : Attempt) (lo k c b : ℕ) (l : lo ≤ b) (h : b < t.n) (o : (get_o
     next_sent = served_sent p r.floor r.requests b l h o
 
     exchange_served : (rs : List (List ℕ)) → Leads t (c + 1) next (encode_of (Deliver p t.number b) ∷ rs) → Leads t c g (exchange p t.number b ++ rs)
-    unfolding exchange stops_by if◌then◌else◌
+    unfolding exchange stops_by when◌then◌else◌
     exchange_served rs = step_on t c g next (Serve p t.number b) (Served t.number) (served p r.floor r.requests b l h o) _ refl
 
     -- an answer that says no and ends the phase, as none does where the attempt's rank is the highest
     stops : (rs : List (List ℕ)) → verdict_on next p t.number b ≡ No → all_said p next_driven h next_sent ≡ false
         → (t.highest ≡ false → Over t (Aborted t.number) (c + 1 + 1)) → Leads t c g (exchange p t.number b ++ rs)
-    unfolding stops_by if◌then◌else◌
+    unfolding stops_by when◌then◌else◌
     stops rs q e s =
         let u = not_true_false t.highest (λ i. clash (all_said_lem p next_driven h next_sent i) e) in
         exchange_served rs (step_last t (c + 1) next _ (Deliver p t.number b) _ (aborts p next_driven h next_sent q) rs refl refl (s u))
@@ -98,7 +98,7 @@ module _ (t : Attempt) (lo k c b : ℕ) (l : lo ≤ b) (h : b < t.n) (o : (get_o
     -- one before the q-th that does not end it
     goes_on : (rs : List (List ℕ)) → k + 1 < quorum t.n → (p ≡ Read → all_said p next_driven h next_sent ≡ true)
         → ((y : Floor) → AtPhase t p (b + 1) (k + 1) y → Leads t (c + 1 + 1) y rs) → Leads t c g (exchange p t.number b ++ rs)
-    unfolding stops_by if◌then◌else◌
+    unfolding stops_by when◌then◌else◌
     goes_on rs q e w =
         exchange_served rs
         (step_on t (c + 1) next _ (Deliver p t.number b) _ (more p next_driven h next_sent q e) rs refl
@@ -115,7 +115,7 @@ module _ (t : Attempt) (lo k c b : ℕ) (l : lo ≤ b) (h : b < t.n) (o : (get_o
 
   reads_last : (rs : List (List ℕ)) → AtPhase t Read lo k g → k + 1 ≡ quorum t.n → (t.highest ≡ false → Over t (Aborted t.number) (c + 1 + 1))
       → ((y : Floor) → AtPhase t Write 0 0 y → Leads t (c + 1 + 1) y rs) → Leads t c g (exchange Read t.number b ++ rs)
-  unfolding stops_by if◌then◌else◌
+  unfolding stops_by when◌then◌else◌
   reads_last rs r q v w =
       let x = next_driven Read r in
       let s = next_sent Read r in
@@ -126,7 +126,7 @@ module _ (t : Attempt) (lo k c b : ℕ) (l : lo ≤ b) (h : b < t.n) (o : (get_o
       (λ e. stops Read r rs (read_no _ _ e) e v)
 
   writes_last : AtPhase t Write lo k g → k + 1 ≡ quorum t.n → c + 1 + 1 ≡ 4 * quorum t.n + 1 → Leads t c g (exchange Write t.number b ++ [])
-  unfolding stops_by if◌then◌else◌
+  unfolding stops_by when◌then◌else◌
   writes_last r q n =
       let x = next_driven Write r in
       let s = next_sent Write r in

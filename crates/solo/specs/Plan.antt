@@ -1,7 +1,7 @@
 -- Document 01, "Solo finish": the round that it picks, the boxes that it asks, and the list of its steps.
 use Rattle.std.specs.Prelude.{ℕ, zero, suc, ◌+◌, List, [], ◌∷◌, ◌++◌, get_or, take}
 use Rattle.suits.specs.declared.Suit.{Suit}
-use Rattle.base.specs.Choice.{if◌then◌else◌}
+use Rattle.base.specs.Choice.{when◌then◌else◌}
 use Rattle.base.specs.Numbers.{quorum}
 use Rattle.register.specs.Register.{box0}
 use Rattle.register.specs.declared.StorageBox.{StorageBox}
@@ -28,7 +28,7 @@ round_of f station = round_above (highest_begun f station) station
 unfoldable pub answering_from : (k b : ℕ) (boxes : List StorageBox) → List ℕ
 answering_from zero b boxes = []
 answering_from (suc k) b boxes =
-    if (get_or boxes b box0).away then answering_from k (b + 1) boxes
+    when (get_or boxes b box0).away then answering_from k (b + 1) boxes
     else b ∷ answering_from k (b + 1) boxes
 
 abbrev pub answering : (f : Floor) → List ℕ

@@ -4,7 +4,7 @@
 // A step looks at one row, one box and one station and changes no other. `parts` decides on these alone, by value; the loop of
 // `run_sound` is the one place that reads them out of a floor and stores them into it, so that no whole floor is moved for a step.
 ghost use Rattle.std.specs.Prelude.{◌≡◌, true, false, length, ◌+◌, ◌≤◌};
-ghost use Rattle.base.specs.Choice.{if◌then◌else◌};
+ghost use Rattle.base.specs.Choice.{when◌then◌else◌};
 ghost use Rattle.base.specs.Records.{records_in};
 ghost use Rattle.commands.specs.Commands.{command_of};
 ghost use Rattle.commands.specs.Outcomes.{number_of, value_of};
@@ -149,7 +149,7 @@ fn shares_with(x: Shares, d: Department, share: Share) -> Shares
 }
 
 fn and(x: bool, y: bool) -> bool
-    ensures { result ≡ if x then y else false }
+    ensures { result ≡ when x then y else false }
 {
     if x {
         return y;
@@ -225,7 +225,7 @@ fn next_sound(f: Floor, d: Department) -> u8
 // The row that a begin of the department takes on a sound floor: the next, or with all its 64 used the free one with the smallest rank, of
 // equals the lowest. 128 where no row is unused or free, and where the floor is not sound.
 pub fn next_row(f: Floor, d: Department) -> u8
-    ensures { result ≡ (if sound_of f then next_row f d else 128) }
+    ensures { result ≡ (when sound_of f then next_row f d else 128) }
 {
     if !sound(f) {
         return 128;

@@ -12,7 +12,7 @@ use lib.Dec.{ltb}
 use borrow.Author.Tests.{ltb-true, ltb-false}
 use lib.ListN.{length, get_or, take, drop, drop_of_length-le}
 use lib.Seq.{drop-cons}
-use Rattle.base.specs.Choice.{if◌then◌else◌}
+use Rattle.base.specs.Choice.{when◌then◌else◌}
 use Rattle.base.proofs.Choices.{on_true, on_false}
 use Rattle.register.specs.Register.{register_of}
 use Rattle.register.specs.declared.Department.{Department}
@@ -36,11 +36,11 @@ module _ (d : Department) where
 
   -- one box more, at the front: one that is away changes nothing, another is counted
   pub tally_away : (y : StorageBox) (ys : List StorageBox) → y.away ≡ true → tally_of d (y ∷ ys) ≡ tally_of d ys
-  unfolding tally_of not_away if◌then◌else◌
+  unfolding tally_of not_away when◌then◌else◌
   tally_away y ys e = rw e refl
 
   pub tally_going : (y : StorageBox) (ys : List StorageBox) → y.away ≡ false → tally_of d (y ∷ ys) ≡ record { count = (tally_of d ys).count + 1; highest = max (tally_of d ys).highest (register_of d y).write }
-  unfolding tally_of not_away highest_write if◌then◌else◌
+  unfolding tally_of not_away highest_write when◌then◌else◌
   tally_going y ys e = rw (e, add-one) refl
 
   cons_by : (s : Bool) (y : StorageBox) (ys : List StorageBox) → y.away ≡ s → tally_of d (y ∷ ys) ≡ one_more d y (tally_of d ys)

@@ -2,7 +2,7 @@
 -- write rank among those; a run with none of these, or empty, gives 0 and 0." Wish 6 of document 02: "Each box keeps one record a
 -- department, and the tally is told which." Wish 8: ""Answering" means not away, in the tally too."
 use Rattle.std.specs.Prelude.{ℕ, ◌+◌, max, List, [], ◌∷◌, length}
-use Rattle.base.specs.Choice.{if◌then◌else◌}
+use Rattle.base.specs.Choice.{when◌then◌else◌}
 use Rattle.register.specs.Register.{register_of}
 use Rattle.register.specs.declared.Department.{Department}
 use Rattle.register.specs.declared.StorageBox.{StorageBox}
@@ -11,7 +11,7 @@ use Rattle.tally.specs.declared.Tally.{Tally}
 -- the boxes of a run that are not away, whichever the department. Wish 6: "Only box stops, n and m are shared."
 unfoldable pub not_away : (run : List StorageBox) → List StorageBox
 not_away [] = []
-not_away (y ∷ ys) = if y.away then not_away ys else y ∷ not_away ys
+not_away (y ∷ ys) = when y.away then not_away ys else y ∷ not_away ys
 
 -- the highest write rank of the department's records in some boxes, 0 where there are none
 unfoldable pub highest_write : (department : Department) (run : List StorageBox) → ℕ
@@ -24,4 +24,4 @@ tally_of d ys = record { count = length (not_away ys); highest = highest_write d
 
 -- a tally with one box more
 unfoldable pub one_more : (department : Department) (y : StorageBox) (t : Tally) → Tally
-one_more d y t = if y.away then t else record { count = t.count + 1; highest = max t.highest (register_of d y).write }
+one_more d y t = when y.away then t else record { count = t.count + 1; highest = max t.highest (register_of d y).write }

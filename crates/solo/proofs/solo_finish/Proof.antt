@@ -18,16 +18,16 @@ use Rattle.solo.specs.Plan.{round_of}
 use Rattle.solo.specs.Solo.{solo_of, solo_number, solo_value}
 use Rattle.solo.specs.declared.Solo.{Solo}
 use Rattle.floor.proofs.SoundLaws.{sound_means}
-use Rattle.solo.proofs.FrontLaws.{front_means, solo_number, solo_value, ends_unsound, ends_refused, ends_driven}
+use Rattle.solo.proofs.FrontLaws.{front_means, solo_number_lem, solo_value_lem, ends_unsound, ends_refused, ends_driven}
 use Rattle.solo.proofs.solo_finish.Statement.{statement}
 use Rattle.solo.proofs.solo_finish.Tie as tie
 
 -- with the number and the value of what was said
 number : (f : Floor) (s : ℕ) (v : Suit) (x : Solo) → x ≡ solo_of f s v → number_of x.outcome ≡ solo_number f s v
-number f s v x e = ap (λ (d : Solo). number_of d.outcome) e ∙ solo_number f s v
+number f s v x e = ap (λ (d : Solo). number_of d.outcome) e ∙ solo_number_lem f s v
 
 value : (f : Floor) (s : ℕ) (v : Suit) (x : Solo) → x ≡ solo_of f s v → value_of x.outcome ≡ solo_value f s v
-value f s v x e = ap (λ (d : Solo). value_of d.outcome) e ∙ solo_value f s v
+value f s v x e = ap (λ (d : Solo). value_of d.outcome) e ∙ solo_value_lem f s v
 
 -- the round and the row are those of the station's department
 abbrev Picked : Type 0

@@ -7,7 +7,7 @@ use Rattle.requests.specs.declared.Verdict.{Verdict}
 use Rattle.requests.specs.declared.Verdict.TheVariants.{Open, Yes, No}
 use Rattle.parts.specs.Parts.{heard_by, delivered}
 use Rattle.parts.specs.declared.Changed.{Changed}
-use Rattle.parts.proofs.DeliverLaws.{of_read, of_write, delivered_by, delivered_is, heard_by}
+use Rattle.parts.proofs.DeliverLaws.{of_read, of_write, delivered_by, delivered_is, heard_by_lem}
 use Rattle.parts.proofs.deliver.deliver.Statement.{statement}
 use Rattle.parts.proofs.deliver.deliver.Tie as tie
 
@@ -32,7 +32,7 @@ came : (d : tie.After-verdict_of-verdict) (v : Verdict) {y : Changed} → d.verd
     → y ≡ heard_by (start (found d)).args.x (start (found d)).args.p (start (found d)).args.a (found d).with_requests.result v
     → y ≡ delivered (start (found d)).args.x (start (found d)).args.p (start (found d)).args.a (start (found d)).args.b
 came d v e h =
-    on_true _ (sym d.in_phase.ensures ∙ not-false _ d.if-not-in_phase.false) (heard_by _ _ _ _ (sym e ∙ d.verdict_of-verdict.ensures) h) ∙ is (found d)
+    on_true _ (sym d.in_phase.ensures ∙ not-false _ d.if-not-in_phase.false) (heard_by_lem _ _ _ _ (sym e ∙ d.verdict_of-verdict.ensures) h) ∙ is (found d)
 
 pub deliver_spec : {M : Type 1} → statement M
 deliver_spec =
