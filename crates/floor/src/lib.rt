@@ -1,5 +1,7 @@
 // The cutting floor: its state here; a new floor, the steps that change it and runs of them in specs/, their laws in proofs/. No function:
 // those stand in crate `steps`, so that a crate that speaks of floors alone does not wait for them.
+#![tactic(auto)]
+
 use attempts::{Row, Station};
 use commands::Outcome;
 use register::StorageBox;

@@ -29,10 +29,10 @@ abbrev found : tie.After-verdict_of-verdict → Heard
 found d = d.before.before.before
 
 came : (d : tie.After-verdict_of-verdict) (v : Verdict) {y : Changed} → d.verdict_of-verdict.result ≡ v
-    → y ≡ heard_by (start (found d)).args.x (start (found d)).args.p (start (found d)).args.a (found d).with_requests.result v
+    → y ≡ heard_by (start (found d)).args.x (start (found d)).args.p (start (found d)).args.a (found d).with_requests-w.result v
     → y ≡ delivered (start (found d)).args.x (start (found d)).args.p (start (found d)).args.a (start (found d)).args.b
 came d v e h =
-    on_true _ (sym d.in_phase.ensures ∙ not-false _ d.if-not-in_phase.false) (heard_by_lem _ _ _ _ (sym e ∙ d.verdict_of-verdict.ensures) h) ∙ is (found d)
+    on_true _ (sym d.in_phase.ensures ∙ d.if-not-in_phase.false) (heard_by_lem _ _ _ _ (sym e ∙ d.verdict_of-verdict.ensures) h) ∙ is (found d)
 
 pub deliver_spec : {M : Type 1} → statement M
 deliver_spec =
@@ -52,7 +52,7 @@ deliver_spec =
     (λ c κs. search rules)
     (λ c. search rules)
     (λ c κs. search rules)
-    (λ c. came c.before.before Open c.in-Open.is refl)
-    (λ c. came c.before.before.before No c.in-No.is (rw c.with_state-station.ensures))
-    (λ c. came c.before.before.before.before.before Yes c.in-Yes.is (of_read _ _ c.in-Read.is c.read_ended.ensures))
-    (λ c. came c.before.before.before.before.before Yes c.in-Yes.is (of_write _ _ c.in-Write.is c.decided.ensures)))
+    (λ c. came c.before Open c.in-Open.is refl)
+    (λ c. came c.before.before No c.in-No.is (rw c.with_state-station.ensures))
+    (λ c. came c.before.before.before Yes c.in-Yes.is (of_read _ _ c.in-Read.is c.read_ended.ensures))
+    (λ c. came c.before.before.before Yes c.in-Yes.is (of_write _ _ c.in-Write.is c.decided.ensures)))
