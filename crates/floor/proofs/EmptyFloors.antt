@@ -11,7 +11,7 @@ use Rattle.register.specs.declared.Department.{Department}
 use Rattle.register.specs.declared.Department.TheVariants.{Sails, Canvas}
 use Rattle.attempts.specs.Stations.{station0}
 use Rattle.attempts.specs.Rows.{row0, unused_row, row_department, first_row, requests_of}
-use Rattle.floor.specs.Floors.{end_of, InUse, new_station, stations_told, empty_floor, new_floor_of}
+use Rattle.floor.specs.Floors.{used_of, end_of, InUse, new_station, stations_told, empty_floor, new_floor_of}
 use Rattle.floor.specs.Soundness.{Sound, Lengths}
 use Rattle.attempts.specs.declared.Station.{Station}
 use Rattle.attempts.specs.declared.Row.{Row}
@@ -51,7 +51,7 @@ empty_sound n m l z = record {
   box_most = z.box_most;
   station_least = z.station_least;
   station_most = z.station_most;
-  rows_most = λ d. elim d [ Sails ↦ omega arith | Canvas ↦ omega arith ];
+  rows_most = λ d. elim d as (λ k. used_of (empty_floor n m l) k ≤ 64) [ Sails ↦ omega arith | Canvas ↦ omega arith ];
   stations = λ a h. absurd (empty_unused n m l a h);
 }
 

@@ -22,6 +22,10 @@ use Rattle.register.specs.declared.Register.{Register}
 use Rattle.floor.specs.Effects.{row_taken}
 use Rattle.floor.proofs.StepCases.{StepCase, turned, began, served, heard, issued, decided, aborted, stopped, left, returned, apply_case}
 
+-- a phase of a row has nine slots
+abbrev Nine : Row → Phase → Type 0
+Nine w p = length (requests_of p w).slots ≡ 9
+
 -- a row's own arrays have their lengths
 pub record RowLengths (w : Row) : Type 0 where
   pub slots : (p : Phase) → length (requests_of p w).slots ≡ 9
@@ -32,25 +36,25 @@ row_lengths f y a h = record { slots = λ p. y.slots p a h; answers = y.answers 
 
 served_lengths : (p : Phase) (w : Row) (g : Register) (b : ℕ) → RowLengths w → RowLengths (row_served p w g b)
 served_lengths Read w g b y = record {
-  slots = λ q. elim q [ Read ↦ served_length w.read b _ ∙ y.slots Read | Write ↦ y.slots Write ];
+  slots = λ q. elim q as (Nine (row_served Read w g b)) [ Read ↦ served_length w.read b _ ∙ y.slots Read | Write ↦ y.slots Write ];
   answers = length-set w.answers b _ ∙ y.answers;
 }
 served_lengths Write w g b y = record {
-  slots = λ q. elim q [ Read ↦ y.slots Read | Write ↦ served_length w.write b _ ∙ y.slots Write ];
+  slots = λ q. elim q as (Nine (row_served Write w g b)) [ Read ↦ y.slots Read | Write ↦ served_length w.write b _ ∙ y.slots Write ];
   answers = y.answers;
 }
 
 heard_lengths : (p : Phase) (w : Row) (b : ℕ) → RowLengths w → RowLengths (row_heard p w b)
-heard_lengths Read w b y = record { slots = λ q. elim q [ Read ↦ y.slots Read | Write ↦ y.slots Write ]; answers = y.answers }
-heard_lengths Write w b y = record { slots = λ q. elim q [ Read ↦ y.slots Read | Write ↦ y.slots Write ]; answers = y.answers }
+heard_lengths Read w b y = record { slots = λ q. elim q as (Nine (row_heard Read w b)) [ Read ↦ y.slots Read | Write ↦ y.slots Write ]; answers = y.answers }
+heard_lengths Write w b y = record { slots = λ q. elim q as (Nine (row_heard Write w b)) [ Read ↦ y.slots Read | Write ↦ y.slots Write ]; answers = y.answers }
 
 issued_lengths : (w : Row) (v : Suit) (n : ℕ) → RowLengths w → RowLengths (rows.issued w v n)
 unfolding rows.issued
-issued_lengths w v n y = record { slots = λ q. elim q [ Read ↦ y.slots Read | Write ↦ waiting_length n ]; answers = y.answers }
+issued_lengths w v n y = record { slots = λ q. elim q as (Nine (rows.issued w v n)) [ Read ↦ y.slots Read | Write ↦ waiting_length n ]; answers = y.answers }
 
 new_lengths_row : (n s round : ℕ) (v : Suit) → RowLengths (new_row n s round v)
 unfolding new_row
-new_lengths_row n s round v = record { slots = λ q. elim q [ Read ↦ waiting_length n | Write ↦ refl ]; answers = refl }
+new_lengths_row n s round v = record { slots = λ q. elim q as (Nine (new_row n s round v)) [ Read ↦ waiting_length n | Write ↦ refl ]; answers = refl }
 
 -- a row stored whose own arrays have their lengths; boxes and stations of the same lengths
 lengths_on : (f g : Floor) (a : ℕ) (w : Row) → Lengths f → length g.boxes ≡ length f.boxes → length g.stations ≡ length f.stations → g.rows ≡ set f.rows a w

@@ -16,7 +16,7 @@ use Rattle.base.proofs.DepartmentLaws.{departments_mean}
 use Rattle.register.specs.declared.Department.TheVariants.{Sails, Canvas}
 use Rattle.attempts.specs.Stations.{station0}
 use Rattle.attempts.specs.declared.Station.{Station}
-use Rattle.floor.specs.Floors.{department_from, new_station, stations_told, empty_floor, new_floor_of}
+use Rattle.floor.specs.Floors.{share_of, department_from, new_station, stations_told, empty_floor, new_floor_of}
 use Rattle.floor.specs.NewFloors.{Told, NewFloorClaims}
 use Rattle.floor.specs.declared.NewFloor.{NewFloor}
 use Rattle.floor.proofs.EmptyFloors.{told_length}
@@ -58,7 +58,7 @@ module _ (n m : ℕ) (l : List ℕ) where
     stations = refl;
     sails = λ s h b. told_at_each e w s h ∙ sails_from (get_or l s 0) b;
     canvas = λ s h b. told_at_each e w s h ∙ canvas_from (get_or l s 0) b;
-    share = λ d. elim d [ Sails ↦ refl | Canvas ↦ refl ];
+    share = λ d. elim d as (λ k. share_of k (empty_floor n m l) ≡ record { used = 0; highest = 0 }) [ Sails ↦ refl | Canvas ↦ refl ];
   }
 
   told : sizes_right n m ≡ true → departments_wrong m l ≡ false → Told n m l (new_floor_of n m l)

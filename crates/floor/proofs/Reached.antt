@@ -35,7 +35,7 @@ new_floor_lem n m l = new_floor_by New n m l (λ _ _. empty n m l) (empty 1 1 []
     empty n m l = record {
       lengths = empty_lengths n m l;
       unused = empty_unused n m l;
-      shares = λ d. elim d [ Sails ↦ refl | Canvas ↦ refl ];
+      shares = λ d. elim d as (λ k. share_of k (empty_floor n m l) ≡ record { used = 0; highest = 0 }) [ Sails ↦ refl | Canvas ↦ refl ];
       boxes = λ b. get_d_same 9 b box0;
       stations = told_at l (length l);
     }

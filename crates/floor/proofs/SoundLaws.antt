@@ -56,7 +56,7 @@ sound_means f e =
     let p = both_true _ _ e in
     let z = sizes_mean f.n f.m p.0 in
     let u = both_true _ _ p.1 in
-    let each : (d : Department) → ShareSound f d = λ d. elim d [ Sails ↦ share_means f Sails u.0 | Canvas ↦ share_means f Canvas u.1 ] in
+    let each : (d : Department) → ShareSound f d = λ d. elim d as (ShareSound f) [ Sails ↦ share_means f Sails u.0 | Canvas ↦ share_means f Canvas u.1 ] in
     record {
       box_least = z.box_least;
       box_most = z.box_most;

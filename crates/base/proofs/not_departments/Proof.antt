@@ -22,8 +22,8 @@ not_departments_spec =
     decreases_loop
     (λ c. (omega arith, refl))
     (λ c. search rules)
-    (λ c. department_wrong _ _ c.before.before.before.loop-i.invariant.1 c.before.before.loop-i-test.true c.if-s-i-gt1.true)
+    (λ c. department_wrong _ _ c.before.before.before.loop-i.invariant.1 c.before.before.loop-i-test.true (omega arith))
     (λ c. search rules)
     (λ c. search rules)
-    (λ c. (omega arith, department_right _ _ c.before.before.before.loop-i.invariant.1 c.before.before.loop-i-test.true c.if-s-i-gt1.false))
+    (λ c. (omega arith, department_right _ _ c.before.before.before.loop-i.invariant.1 c.before.before.loop-i-test.true (omega arith)))
     (λ c. departments_right _ _ c.before.loop-i.invariant.1 c.loop-i-test.false))
