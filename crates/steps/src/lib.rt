@@ -3,6 +3,8 @@
 //
 // A step looks at one row, one box and one station and changes no other. `parts` decides on these alone, by value; the loop of
 // `run_sound` is the one place that reads them out of a floor and stores them into it, so that no whole floor is moved for a step.
+#![tactic(auto)]
+
 ghost use Rattle.std.specs.Prelude.{◌≡◌, true, false, length, ◌+◌, ◌≤◌};
 ghost use Rattle.base.specs.Choice.{when◌then◌else◌};
 ghost use Rattle.base.specs.Records.{records_in};

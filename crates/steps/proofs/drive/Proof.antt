@@ -12,9 +12,9 @@ use Rattle.steps.proofs.drive.Statement.{statement}
 use Rattle.steps.proofs.drive.Tie as tie
 
 -- what turns the run back
-refusal : (x : tie.After-run-refusal) → x.run_refusal.result ≡ run_refusal x.before.before.before.args.f x.before.before.before.args.records.now
+refusal : (x : tie.After-run_refusal-refusal) → x.run_refusal-refusal.result ≡ run_refusal x.args.f x.args.records.now
 unfolding run_refusal
-refusal x = x.run_refusal.ensures ∙ ap (λ (t : Bool). refusal_by t (length x.before.before.before.args.records.now)) x.before.sound.ensures
+refusal x = x.run_refusal-refusal.ensures ∙ ap (λ (t : Bool). refusal_by t (length x.args.records.now)) x.sound-right.ensures
 
 pub drive_spec : {M : Type 1} → statement M
 drive_spec =
@@ -23,10 +23,10 @@ drive_spec =
     (λ c κs. search rules)
     (λ c κs. search rules)
     (λ c.
-    let e = driven_refused _ _ _ (refusal c.before) _ c.if1.true in
+    let e = driven_refused _ _ _ (refusal c.before) _ c.if-refusal-ne0.true in
     (e, (ap (λ (x : Ran). number_of x.outcome) e, ap (λ (x : Ran). value_of x.outcome) e)))
     (λ c κs. search rules)
-    (λ c κs. sound_means _ (run_may _ _ (sym (refusal c.before.before) ∙ c.before.if1.false)).0)
+    (λ c κs. sound_means _ (run_may _ _ (sym (refusal c.before.before) ∙ c.if-refusal-ne0.false)).0)
     (λ c.
-    let e = driven_whole _ _ _ (refusal c.before.before.before) _ c.before.before.if1.false _ (rw (← c.before.decode.ensures) c.run_sound.ensures) in
+    let e = driven_whole _ _ _ (refusal c.before.before.before) _ c.if-refusal-ne0.false _ (rw (← c.decode.ensures) c.run_sound.ensures) in
     (e, (ap (λ (x : Ran). number_of x.outcome) e, ap (λ (x : Ran). value_of x.outcome) e))))

@@ -21,10 +21,10 @@ new_floor_spec =
     (λ c κs. search rules)
     (λ c. search rules)
     (λ c κs. search rules)
-    (λ c. rw c.empty2.ensures (on_true _ (search tests) (on_true _ (search tests) refl)))
+    (λ c. rw c.empty-then-departments_wrong.ensures (on_true _ (search tests) (on_true _ (search tests) refl)))
     (λ c κs.
-    let d = departments_mean _ _ (sym c.before.departments_wrong.ensures ∙ c.if2.false) in
-    let a = c.before.before.before.before.before.args in
+    let d = departments_mean _ _ (sym c.departments_wrong.ensures ∙ c.if-departments_wrong.false) in
+    let a = c.args in
     let z = sizes_mean a.n a.m (search tests) in
     omega (arith, d.count, z.station_most))
-    (λ c. rw c.empty3.ensures (on_true _ (search tests) (on_false _ (search tests) refl))))
+    (λ c. rw c.empty-2.ensures (on_true _ (search tests) (on_false _ (search tests) refl))))

@@ -16,14 +16,14 @@ use Rattle.steps.proofs.next_sound.Statement.{statement}
 use Rattle.steps.proofs.next_sound.Tie as tie
 
 -- the department is that of its first row
-abbrev invariant_loop : tie.invariant_loop
+abbrev invariant_loop : tie.invariant-loop-k
 invariant_loop f first found₀ k₀ found k = (k ≤ 64) × (found ≡ free_below f (row_department first) k)
 
-abbrev decreases_loop : tie.decreases_loop
+abbrev decreases_loop : tie.decreases-loop-k
 decreases_loop f first found₀ k₀ found k = 64 - k
 
-own : (x : tie.After-first-row invariant_loop decreases_loop) → row_department x.first_row.result ≡ x.before.before.before.args.d
-own x = ap row_department x.first_row.ensures ∙ first_own x.before.before.before.args.d
+own : (x : tie.After-first_row-first invariant_loop decreases_loop) → row_department x.first_row-first.result ≡ x.args.d
+own x = ap row_department x.first_row-first.ensures ∙ first_own x.args.d
 
 pub next_sound_spec : {M : Type 1} → statement M
 unfolding next_row
@@ -34,34 +34,34 @@ next_sound_spec =
     decreases_loop
     (λ c κs. search rules)
     (λ c κs. search rules)
-    (λ c. omega (arith, c.before.if1.true, c.before.before.before.first_row.ensures, first_most c.before.before.before.before.before.before.args.d))
+    (λ c. omega (arith, c.if-share-lt64.true, c.first_row-first.ensures, first_most c.args.d))
     (λ c.
-    rw (← c.before.before.before.before.share_of.ensures, ← c.before.before.before.first_row.ensures) (on_true _ (search tests) refl))
+    rw (← c.share_of-share.ensures, ← c.first_row-first.ensures) (on_true _ (search tests) refl))
     (λ c. (omega arith, none_found _ _))
-    (λ c. omega (arith, c.loop-test.true, c.before.before.before.before.first_row.ensures, first_most c.before.before.before.before.before.before.before.args.d))
+    (λ c. omega (arith, c.loop-k-test.true, c.first_row-first.ensures, first_most c.args.d))
     (λ c. search rules)
     (λ c. search rules)
-    (λ c. omega (arith, c.loop-test.true, c.before.before.before.before.first_row.ensures, first_most c.before.before.before.before.before.before.before.args.d))
+    (λ c. omega (arith, c.loop-k-test.true, c.first_row-first.ensures, first_most c.args.d))
     (λ c. search rules)
     (λ c. search rules)
     (λ c.
-    let h = c.before.before.loop-test.true in
+    let h = c.loop-k-test.true in
     let x = c.before.before.before.before.before.before in
-    let d = x.before.before.before.args.d in
-    let z = c.before.before.before.before.before.before.before.before.before.requires in
-    let full = c.before.before.before.before.if1.false in
-    let u = x.before.share_of.ensures in
-    let e = x.first_row.ensures in
-    let k = c.before.before.before.loop.k in
-    omega (arith, z.stations (x.first_row.result + k) (of_use x.before.before.before.args.t1 d _ (ap (λ (i : ℕ). row_department (i + k)) e ∙ row_own d k h) (omega (arith, h, e, full, ap (λ (s : Share). s.used) u))), z.station_most))
-    (λ c κs. c.before.before.before.before.before.before.before.before.before.before.requires.box_most)
-    (λ c. omega (arith, c.before.before.before.before.loop-test.true))
-    (λ c. omega (arith, c.before.before.before.before.loop-test.true))
+    let d = x.args.d in
+    let z = c.requires in
+    let full = c.if-share-lt64.false in
+    let u = x.share_of-share.ensures in
+    let e = x.first_row-first.ensures in
+    let k = c.loop-k.k in
+    omega (arith, z.stations (x.first_row-first.result + k) (of_use x.args.f d _ (ap (λ (i : ℕ). row_department (i + k)) e ∙ row_own d k h) (omega (arith, h, e, full, ap (λ (s : Share). s.used) u))), z.station_most))
+    (λ c κs. c.requires.box_most)
+    (λ c. omega (arith, c.loop-k-test.true))
+    (λ c. omega (arith, c.loop-k-test.true))
     (λ c. (
-      omega (arith, c.before.before.before.before.loop-test.true),
-      found_more _ _ _ _ _ _ _ _ (ap (λ (i : ℕ). i + c.before.before.before.before.before.loop.k) (c.before.before.before.before.before.before.before.before.first_row.ensures ∙ ap first_row (sym (own c.before.before.before.before.before.before.before.before)))) c.before.before.before.before.before.loop.invariant.1 refl refl c.better.ensures,
+      omega (arith, c.loop-k-test.true),
+      found_more _ _ _ _ _ _ _ _ (ap (λ (i : ℕ). i + c.loop-k.k) (c.first_row-first.ensures ∙ ap first_row (sym (own c.before.before.before.before.before.before.before.before)))) c.loop-k.invariant.1 refl refl c.better-found.ensures,
     ))
     (λ c.
-    let e : c.before.loop.k ≡ 64 = omega (arith, c.loop-test.false, c.before.loop.invariant.0) in
+    let e : c.loop-k.k ≡ 64 = omega (arith, c.loop-k-test.false, c.loop-k.invariant.0) in
     let x = c.before.before.before.before in
-    rw (← c.before.before.before.before.before.share_of.ensures) (on_false _ (search tests) (ap (λ (l : Lowest). l.row) (c.before.loop.invariant.1 ∙ ap (free_below _ _) e ∙ ap (λ (d : Department). free_below x.before.before.before.args.t1 d 64) (own x))))))
+    rw (← c.share_of-share.ensures) (on_false _ (search tests) (ap (λ (l : Lowest). l.row) (c.loop-k.invariant.1 ∙ ap (free_below _ _) e ∙ ap (λ (d : Department). free_below x.args.f d 64) (own x))))))

@@ -29,33 +29,33 @@ use Rattle.floor.proofs.RunLaws.{Turn, gathered_at, turn_refused, turn_sound, tu
 use Rattle.steps.proofs.run_sound.Statement.{statement}
 use Rattle.steps.proofs.run_sound.Tie as tie
 
-abbrev invariant_loop : tie.invariant_loop
+abbrev invariant_loop : tie.invariant-loop-a
 invariant_loop records until f₀ count c₀ k₀ f c k =
     (k ≤ count) × Sound f × (run_from until k f c (records_from (count - k) records (8 * k)) ≡ run_from until 0 f₀ c₀ (records_from count records 0))
 
-abbrev decreases_loop : tie.decreases_loop
+abbrev decreases_loop : tie.decreases-loop-a
 decreases_loop records until f₀ count c₀ k₀ f c k = count - k
 
 -- while the row of a begin is looked for
-abbrev invariant_loop2 : tie.invariant_loop2
+abbrev invariant_loop2 : tie.invariant-loop-passed
 invariant_loop2 records until f count c k near d shares share first found₀ passed₀ found passed = (passed ≤ 64) × Looking f d c passed found
 
-abbrev decreases_loop2 : tie.decreases_loop2
+abbrev decreases_loop2 : tie.decreases-loop-passed
 decreases_loop2 records until f count c k near d shares share first found₀ passed₀ found passed = 64 - passed
 
 -- Places of a turn: its head, where the department's first row is known, where the step's change is known, behind its stores, and where it is
 -- known whether it was the last.
 abbrev Head : Type 0
-Head = tie.At-loop invariant_loop2 decreases_loop2 invariant_loop decreases_loop
+Head = tie.At-loop-a invariant_loop2 decreases_loop2 invariant_loop decreases_loop
 
 abbrev Owning : Type 0
-Owning = tie.After-first-row invariant_loop2 decreases_loop2 invariant_loop decreases_loop
+Owning = tie.After-first_row-first invariant_loop2 decreases_loop2 invariant_loop decreases_loop
 
 abbrev Changing : Type 0
-Changing = tie.After-change invariant_loop2 decreases_loop2 invariant_loop decreases_loop
+Changing = tie.After-change-y invariant_loop2 decreases_loop2 invariant_loop decreases_loop
 
 abbrev Storing : Type 0
-Storing = tie.After-shares-with invariant_loop2 decreases_loop2 invariant_loop decreases_loop
+Storing = tie.After-shares_with-shares2 invariant_loop2 decreases_loop2 invariant_loop decreases_loop
 
 abbrev Ending : Type 0
 Ending = tie.After-over invariant_loop2 decreases_loop2 invariant_loop decreases_loop
@@ -76,49 +76,49 @@ abbrev storing : Ending → Storing
 storing x = x.before.before
 
 -- a row of the department that is looked at has a station, since all 64 are in use
-looked_at : (x : Owning) (k a : ℕ) → k < 64 → a ≡ x.first_row.result + k → 64 ≤ (share_of x.before.before.before.department_in.result (home x).loop.f).used → InUse (home x).loop.f a
+looked_at : (x : Owning) (k a : ℕ) → k < 64 → a ≡ x.first_row-first.result + k → 64 ≤ (share_of x.department_in-d.result (home x).loop-a.f).used → InUse (home x).loop-a.f a
 looked_at x k a h e full =
-    let d = x.before.before.before.department_in.result in
-    let q = e ∙ ap (λ (i : ℕ). i + k) x.first_row.ensures in
-    of_use (home x).loop.f d a (ap row_department q ∙ row_own d k h) (omega (arith, q, h, full))
+    let d = x.department_in-d.result in
+    let q = e ∙ ap (λ (i : ℕ). i + k) x.first_row-first.ensures in
+    of_use (home x).loop-a.f d a (ap row_department q ∙ row_own d k h) (omega (arith, q, h, full))
 
-turn : (x : Changing) → Turn (head x).loop.f (head x).loop.c (owning x).before.before.before.department_in.result x.before.before.before.before.before.before.before.before.before.before.loop2.found.row
-    x.before.before.before.before.before.before.before.before.row_place_lem.result x.before.before.before.before.before.before.before.box_place.result x.before.before.before.before.before.station_place2.result x.change.result
+turn : (x : Changing) → Turn (head x).loop-a.f (head x).loop-a.c (owning x).department_in-d.result x.loop-passed.found.row
+    x.row_place_lem.result x.box_place-b.result x.station_place-j.result x.change-y.result
 turn x =
     let o = owning x in
-    let d = o.before.before.before.department_in in
+    let d = o.department_in-d in
     record {
-      sound = (head x).loop.inv.1;
-      department = d.ensures ∙ ap (λ (k : ℕ). let own = department_at (head x).loop.f k in department_with own (belonging own (head x).loop.c)) o.before.before.before.before.before.station_place.ensures;
-      taken = let y = x.before.before.before.before.before.before.before.before.before.before in looking_ends _ _ _ _ _ y.loop2.inv.0 (omega (arith, x.before.before.before.before.before.before.before.before.before.loop2-test.left)) y.loop2.inv.1;
-      row = x.before.before.before.before.before.before.before.before.row_place_lem.ensures;
-      storage = x.before.before.before.before.before.before.before.box_place.ensures;
-      station = x.before.before.before.before.before.station_place2.ensures;
+      sound = (head x).loop-a.inv.1;
+      department = d.ensures ∙ ap (λ (k : ℕ). let own = department_at (head x).loop-a.f k in department_with own (belonging own (head x).loop-a.c)) o.station_place-near.ensures;
+      taken = let y = x in looking_ends _ _ _ _ _ y.loop2.inv.0 (omega (arith, x.loop-passed-test.left)) y.loop2.inv.1;
+      row = x.row_place_lem.ensures;
+      storage = x.box_place-b.ensures;
+      station = x.station_place-j.ensures;
       change =
           let g =
-          gathered_at (head x).loop.f d.result _ _ _ _ _ _ _ x.before.gathered.result o.first_row.ensures o.before.share_of.ensures
-          x.before.before.before.register_of.ensures x.before.gathered.ensures in
-          ◌∙◌ {b = change_in x.before.gathered.result (head x).loop.c}
-          (chosen _ (le-leb _ _ (subst (λ (p : Parts). p.n ≤ 9) (sym g) (head x).loop.inv.1.box_most)) x.change.ensures)
-          (ap (λ (p : Parts). change_in p (head x).loop.c) g);
+          gathered_at (head x).loop-a.f d.result _ _ _ _ _ _ _ x.gathered-x.result o.first_row-first.ensures o.share_of-share.ensures
+          x.register_of-register.ensures x.gathered-x.ensures in
+          ◌∙◌ {b = change_in x.gathered-x.result (head x).loop-a.c}
+          (chosen _ (le-leb _ _ (subst (λ (p : Parts). p.n ≤ 9) (sym g) (head x).loop-a.inv.1.box_most)) x.change-y.ensures)
+          (ap (λ (p : Parts). change_in p (head x).loop-a.c) g);
     }
 
 -- the step was refused, or accepted
-turned_back_lem : (c : tie.Then1 invariant_loop2 decreases_loop2 invariant_loop decreases_loop) → is_refused c.before.before.change.result.outcome ≡ true
-turned_back_lem c = sym c.before.refused.ensures ∙ c.if1.true
+turned_back_lem : (c : tie.Then-refused invariant_loop2 decreases_loop2 invariant_loop decreases_loop) → is_refused c.change-y.result.outcome ≡ true
+turned_back_lem c = sym c.refused-refused.ensures ∙ c.if-refused.true
 
-abbrev asked : Storing → tie.After-refused invariant_loop2 decreases_loop2 invariant_loop decreases_loop
+abbrev asked : Storing → tie.After-refused-refused invariant_loop2 decreases_loop2 invariant_loop decreases_loop
 asked x = x.before.before.before.before.before.before.before
 
-accepted : (x : Storing) → is_refused (changing x).change.result.outcome ≡ false
-accepted x = sym (asked x).refused.ensures ∙ x.before.before.before.before.before.before.if1.left
+accepted : (x : Storing) → is_refused (changing x).change-y.result.outcome ≡ false
+accepted x = sym (asked x).refused-refused.ensures ∙ x.if-refused.left
 
 -- it was not the last: a record is left
-left : (c : tie.Else2 invariant_loop2 decreases_loop2 invariant_loop decreases_loop) → (head (changing (storing c.before))).loop.k < length (head (changing (storing c.before))).before.before.args.records.now / 8
+left : (c : tie.Else-over invariant_loop2 decreases_loop2 invariant_loop decreases_loop) → (head (changing (storing c.before))).loop-a.k < length (head (changing (storing c.before))).args.records.now / 8
 left c =
     let x = storing c.before in
-    turn_left (turn (changing x)) (accepted x) _ _ x.before.box_with.ensures x.shares_with.ensures _ _ _ _ _ _ (asked x).refused.ensures c.before.before.ends.ensures
-    c.before.over.ensures c.if2.false
+    turn_left (turn (changing x)) (accepted x) _ _ x.box_with-storage2.ensures x.shares_with-shares2.ensures _ _ _ _ _ _ (asked x).refused-refused.ensures c.ends-ends.ensures
+    c.over.ensures c.if-over.false
 
 pub run_sound_spec : {M : Type 1} → statement M
 run_sound_spec =
@@ -128,77 +128,77 @@ run_sound_spec =
     decreases_loop2
     invariant_loop
     decreases_loop
-    (λ c. (search rules, c.before.requires, rw sub-zero))
+    (λ c. (search rules, c.requires, rw sub-zero))
     (λ c κs. search rules)
     (λ c. search rules)
     (λ c. search rules)
-    (λ c. omega (arith, place_below _ _ _ c.station_place.ensures (omega arith)))
+    (λ c. omega (arith, place_below _ _ _ c.station_place-near.ensures (omega arith)))
     (λ c κs. search rules)
     (λ c κs. search rules)
     (λ c κs. search rules)
-    (λ c κs. omega (arith, c.first_row.ensures, first_most c.before.before.before.department_in.result))
+    (λ c κs. omega (arith, c.first_row-first.ensures, first_most c.department_in-d.result))
     (λ c κs. search rules)
     (λ c.
     let o = c.before.before in
     looking_starts _ _ _ _ _
-    (c.before.start.ensures ∙ ap₂ (λ (i : ℕ) (s : Share). start_of i s.used (home o).loop.c) o.first_row.ensures o.before.share_of.ensures) c.first.ensures)
-    (λ c. let o = c.before.before.before.before in omega (arith, c.loop2-test.true, o.first_row.ensures, first_most o.before.before.before.department_in.result))
+    (c.start-found.ensures ∙ ap₂ (λ (i : ℕ) (s : Share). start_of i s.used (home o).loop-a.c) o.first_row-first.ensures o.share_of-share.ensures) c.first-passed.ensures)
+    (λ c. let o = c.before.before.before.before in omega (arith, c.loop-passed-test.true, o.first_row-first.ensures, first_most o.department_in-d.result))
     (λ c. search rules)
     (λ c. search rules)
-    (λ c. let o = c.before.before.before.before in omega (arith, c.loop2-test.true, o.first_row.ensures, first_most o.before.before.before.department_in.result))
+    (λ c. let o = c.before.before.before.before in omega (arith, c.loop-passed-test.true, o.first_row-first.ensures, first_most o.department_in-d.result))
     (λ c. search rules)
     (λ c. search rules)
     (λ c.
     let o = c.before.before.before.before.before.before in
-    let h = c.before.before.loop2-test.true in
-    let y = c.before.before.before.loop2 in
-    let z = (home o).loop.invariant.1 in
+    let h = c.loop-passed-test.true in
+    let y = c.loop-passed in
+    let z = (home o).loop-a.invariant.1 in
     omega (arith, z.stations _ (looked_at o y.passed _ h refl (looking_full _ _ _ _ _ h y.invariant.1)), z.station_most))
-    (λ c κs. (home c.before.before.before.before.before.before.before).loop.inv.1.box_most)
-    (λ c. omega (arith, c.before.before.before.before.loop2-test.true))
-    (λ c. omega (arith, c.before.before.before.before.loop2-test.true))
+    (λ c κs. (home c.before.before.before.before.before.before.before).loop-a.inv.1.box_most)
+    (λ c. omega (arith, c.loop-passed-test.true))
+    (λ c. omega (arith, c.loop-passed-test.true))
     (λ c.
-    let o = c.before.before.before.before.before.before.before.before in
-    let h = c.before.before.before.before.loop2-test.true in
-    let y = c.before.before.before.before.before.loop2 in
-    (omega (arith, h), looking_on _ _ _ _ _ _ _ _ _ h y.invariant.1 (ap (λ (i : ℕ). i + y.passed) o.first_row.ensures) refl refl c.better.ensures))
+    let o = c in
+    let h = c.loop-passed-test.true in
+    let y = c.loop-passed in
+    (omega (arith, h), looking_on _ _ _ _ _ _ _ _ _ h y.invariant.1 (ap (λ (i : ℕ). i + y.passed) o.first_row-first.ensures) refl refl c.better-found.ensures))
     (λ c κs. search rules)
     (λ c. search rules)
     (λ c κs. search rules)
     (λ c. search rules)
-    (λ c. omega (arith, place_below _ _ _ c.before.row_place_lem.ensures (omega arith)))
-    (λ c. omega (arith, place_below _ _ _ c.before.row_place_lem.ensures (omega arith)))
+    (λ c. omega (arith, place_below _ _ _ c.row_place_lem.ensures (omega arith)))
+    (λ c. omega (arith, place_below _ _ _ c.row_place_lem.ensures (omega arith)))
     (λ c κs. search rules)
     (λ c. search rules)
-    (λ c. omega (arith, place_below _ _ _ c.before.before.box_place.ensures (omega arith)))
-    (λ c. omega (arith, place_below _ _ _ c.before.before.box_place.ensures (omega arith)))
+    (λ c. omega (arith, place_below _ _ _ c.box_place-b.ensures (omega arith)))
+    (λ c. omega (arith, place_below _ _ _ c.box_place-b.ensures (omega arith)))
     (λ c κs. search rules)
-    (λ c. omega (arith, place_below _ _ _ c.before.before.station_place2.ensures (omega arith)))
-    (λ c. omega (arith, place_below _ _ _ c.before.before.station_place2.ensures (omega arith)))
-    (λ c κs. search rules)
-    (λ c κs. search rules)
-    (λ c κs. search rules)
-    (λ c. let x = c.before.before in turn_refused (turn x) _ _ _ (turned_back_lem c) ∙ (head x).loop.invariant.2)
+    (λ c. omega (arith, place_below _ _ _ c.station_place-j.ensures (omega arith)))
+    (λ c. omega (arith, place_below _ _ _ c.station_place-j.ensures (omega arith)))
     (λ c κs. search rules)
     (λ c κs. search rules)
-    (λ c. let h = place_below _ _ _ (changing c).before.before.before.before.before.before.before.before.row_place_lem.ensures (omega arith) in omega (arith, h))
-    (λ c. let h = place_below _ _ _ (changing c).before.before.before.before.before.before.before.before.row_place_lem.ensures (omega arith) in omega (arith, h))
-    (λ c. let h = place_below _ _ _ (changing c).before.before.before.before.before.before.before.box_place.ensures (omega arith) in omega (arith, h))
-    (λ c. let h = place_below _ _ _ (changing c).before.before.before.before.before.before.before.box_place.ensures (omega arith) in omega (arith, h))
-    (λ c. let h = place_below _ _ _ (changing c).before.before.before.before.before.station_place2.ensures (omega arith) in omega (arith, h))
-    (λ c. let h = place_below _ _ _ (changing c).before.before.before.before.before.station_place2.ensures (omega arith) in omega (arith, h))
     (λ c κs. search rules)
-    (λ c. let h = (head (changing c.before)).loop.inv.0 in omega (arith, h))
+    (λ c. let x = c.before.before in turn_refused (turn x) _ _ _ (turned_back_lem c) ∙ (head x).loop-a.invariant.2)
     (λ c κs. search rules)
-    (λ c. let x = head (changing (storing c.before)) in let h = x.loop.inv.0 in let z = x.before.before.good in omega arith)
+    (λ c κs. search rules)
+    (λ c. let h = place_below _ _ _ (changing c).row_place_lem.ensures (omega arith) in omega (arith, h))
+    (λ c. let h = place_below _ _ _ (changing c).row_place_lem.ensures (omega arith) in omega (arith, h))
+    (λ c. let h = place_below _ _ _ (changing c).box_place-b.ensures (omega arith) in omega (arith, h))
+    (λ c. let h = place_below _ _ _ (changing c).box_place-b.ensures (omega arith) in omega (arith, h))
+    (λ c. let h = place_below _ _ _ (changing c).station_place-j.ensures (omega arith) in omega (arith, h))
+    (λ c. let h = place_below _ _ _ (changing c).station_place-j.ensures (omega arith) in omega (arith, h))
+    (λ c κs. search rules)
+    (λ c. let h = (head (changing c.before)).loop-a.inv.0 in omega (arith, h))
+    (λ c κs. search rules)
+    (λ c. let x = head (changing (storing c.before)) in let h = x.loop-a.inv.0 in let z = x.good in omega arith)
     (λ c.
     let x = storing c.before in
-    turn_over (turn (changing x)) (accepted x) _ _ x.before.box_with.ensures x.shares_with.ensures _ _ _ _ _ _ (asked x).refused.ensures c.before.before.ends.ensures
-    c.before.over.ensures _ c.if2.true
-    ∙ (head (changing x)).loop.inv.2)
+    turn_over (turn (changing x)) (accepted x) _ _ x.box_with-storage2.ensures x.shares_with-shares2.ensures _ _ _ _ _ _ (asked x).refused-refused.ensures c.ends-ends.ensures
+    c.over.ensures _ c.if-over.true
+    ∙ (head (changing x)).loop-a.inv.2)
     (λ c κs. search rules)
     (λ c κs. search rules)
-    (λ c. let h = left c.before.before in let z = (head (changing (storing c.before.before.before))).before.before.good in omega arith)
+    (λ c. let h = left c.before.before in let z = (head (changing (storing c.before.before.before))).good in omega arith)
     (λ c. let h = left c.before.before in omega arith)
     (λ c.
     let e = c.before.before.before in
@@ -206,10 +206,10 @@ run_sound_spec =
     let t = turn (changing x) in
     let a = accepted x in
     let h = left c.before.before in
-    let eb = x.before.box_with.ensures in
-    let es = x.shares_with.ensures in
-    let next = c.decode.ensures ∙ ap command_of (c.before.record_at.ensures ∙ record_there _ _ _ (omega arith)) in (
+    let eb = x.box_with-storage2.ensures in
+    let es = x.shares_with-shares2.ensures in
+    let next = c.decode-c.ensures ∙ ap command_of (c.record_at.ensures ∙ record_there _ _ _ (omega arith)) in (
       omega arith,
       turn_sound t a _ _ eb es,
-      turn_on t a _ _ eb es _ _ _ _ _ _ (asked x).refused.ensures e.before.ends.ensures e.over.ensures _ c.before.before.if2.false _ next ∙ (head (changing x)).loop.inv.2,
+      turn_on t a _ _ eb es _ _ _ _ _ _ (asked x).refused-refused.ensures e.ends-ends.ensures e.over.ensures _ c.if-over.false _ next ∙ (head (changing x)).loop-a.inv.2,
     )))

@@ -15,8 +15,8 @@ share_sound_spec =
     (tie.spec
     (λ c κs. search rules)
     (λ c κs. search rules)
-    (λ c. rw (← c.before.before.before.share_of.ensures) (on_true _ (search tests) refl))
-    (λ c κs. (omega (arith, c.before.before.first_row.ensures, first_most c.before.before.before.before.before.args.d), c.if1.false))
+    (λ c. rw (← c.share_of-share.ensures) (on_true _ (search tests) refl))
+    (λ c κs. (omega (arith, c.first_row-first.ensures, first_most c.args.d), c.if-share-gt64.false))
     (λ c.
-    rw (← c.before.before.before.before.share_of.ensures, ← c.before.before.before.first_row.ensures)
+    rw (← c.share_of-share.ensures, ← c.first_row-first.ensures)
     (on_false _ (search tests) c.stations_below.ensures)))

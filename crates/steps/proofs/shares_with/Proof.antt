@@ -8,5 +8,5 @@ shares_with_spec =
     (tie.spec
     (λ c. search rules)
     (λ c. search rules)
-    (λ c. rw c.enum_told.given.1)
-    (λ c. rw c.enum-told2.given.1))
+    (λ c. rw c.in-Sails.is)
+    (λ c. rw c.in-Canvas.is))

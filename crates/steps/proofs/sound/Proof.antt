@@ -16,4 +16,4 @@ sound_spec =
     (λ c κs. search rules)
     (λ c. on_true _ (search tests) (on_false _ (search tests) refl))
     (λ c κs. search rules)
-    (λ c. on_true _ (search tests) (on_true _ (search tests) c.share_sound2.ensures)))
+    (λ c. on_true _ (search tests) (on_true _ (search tests) c.share_sound-2.ensures)))

@@ -7,10 +7,10 @@ use Rattle.floor.specs.Sound.{stations_below}
 use Rattle.steps.proofs.stations_below.Statement.{statement}
 use Rattle.steps.proofs.stations_below.Tie as tie
 
-abbrev invariant_loop : tie.invariant_loop
+abbrev invariant_loop : tie.invariant-loop-k
 invariant_loop first used f ok₀ k₀ ok k = (k ≤ used) × (ok ≡ stations_below f.rows f.m first k)
 
-abbrev decreases_loop : tie.decreases_loop
+abbrev decreases_loop : tie.decreases-loop-k
 decreases_loop first used f ok₀ k₀ ok k = used - k
 
 pub stations_below_spec : {M : Type 1} → statement M
@@ -29,4 +29,4 @@ stations_below_spec =
     (λ c. omega arith)
     (λ c. omega arith)
     (λ c. (omega arith, rw add-one (cc)))
-    (λ c. let e : c.before.loop.k ≡ c.before.before.args.used = omega arith in cc))
+    (λ c. let e : c.loop-k.k ≡ c.args.used = omega arith in cc))

@@ -8,10 +8,10 @@ use Rattle.floor.specs.Floors.{stations_told}
 use Rattle.steps.proofs.stations_told.Statement.{statement}
 use Rattle.steps.proofs.stations_told.Tie as tie
 
-abbrev invariant_loop : tie.invariant_loop
+abbrev invariant_loop : tie.invariant-loop-k
 invariant_loop departments stations₀ k₀ stations k = (k ≤ length departments) × (stations ≡ stations_told departments k)
 
-abbrev decreases_loop : tie.decreases_loop
+abbrev decreases_loop : tie.decreases-loop-k
 decreases_loop departments stations₀ k₀ stations k = length departments - k
 
 pub stations_told_spec : {M : Type 1} → statement M
@@ -29,4 +29,4 @@ stations_told_spec =
     (λ c. search rules)
     (λ c. omega arith)
     (λ c. (omega arith, rw add-one (cc)))
-    (λ c. let e : c.before.loop.k ≡ length c.before.before.before.args.departments.now = omega arith in cc))
+    (λ c. let e : c.loop-k.k ≡ length c.args.departments.now = omega arith in cc))

@@ -7,10 +7,10 @@ use Rattle.floor.specs.Free.{all_served}
 use Rattle.steps.proofs.free.all_served.Statement.{statement}
 use Rattle.steps.proofs.free.all_served.Tie as tie
 
-abbrev invariant_loop : tie.invariant_loop
+abbrev invariant_loop : tie.invariant-loop-k
 invariant_loop w n ok₀ k₀ ok k = (k ≤ n) × (ok ≡ all_served w k)
 
-abbrev decreases_loop : tie.decreases_loop
+abbrev decreases_loop : tie.decreases-loop-k
 decreases_loop w n ok₀ k₀ ok k = n - k
 
 pub all_served_spec : {M : Type 1} → statement M
@@ -26,4 +26,4 @@ all_served_spec =
     (λ c. omega arith)
     (λ c. omega arith)
     (λ c. (omega arith, rw add-one (cc)))
-    (λ c. let e : c.before.loop.k ≡ c.before.before.args.n = omega arith in cc))
+    (λ c. let e : c.loop-k.k ≡ c.args.n = omega arith in cc))
