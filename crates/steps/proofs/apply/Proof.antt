@@ -3,13 +3,13 @@ use mathlib.Core.Path.{◌≡◌, ap, sym, ◌∙◌}
 use borrow.Author.Tests.{not-true, not-false}
 use Rattle.commands.specs.Outcomes.{number_of, value_of}
 use Rattle.commands.specs.declared.Command.{Command}
-use Rattle.floor-1.specs.Step.{apply_of, refusal_of, value_said}
-use Rattle.floor-1.specs.declared.Floor.{Floor}
-use Rattle.floor-1.specs.declared.Stepped.{Stepped}
-use Rattle.floor-1.proofs.SoundLaws.{sound_means}
-use Rattle.floor-1.proofs.StepLaws.{apply_unsound}
-use Rattle.floor-1.proofs.RunCalls.{of_step, run_one}
-use Rattle.floor-1.proofs.Numbered.{apply_number}
+use Rattle.floor.specs.Step.{apply_of, refusal_of, value_said}
+use Rattle.floor.specs.declared.Floor.{Floor}
+use Rattle.floor.specs.declared.Stepped.{Stepped}
+use Rattle.floor.proofs.SoundLaws.{sound_means}
+use Rattle.floor.proofs.StepLaws.{apply_unsound}
+use Rattle.floor.proofs.RunCalls.{of_step, run_one}
+use Rattle.floor.proofs.Numbered.{apply_number}
 use Rattle.steps.proofs.apply.Statement.{statement}
 use Rattle.steps.proofs.apply.Tie as tie
 
@@ -23,6 +23,5 @@ apply_spec =
     (tie.spec
     (λ c κs. search rules)
     (λ c. told _ _ _ (sym (apply_unsound _ _ (sym c.sound.ensures ∙ c.if-not-sound.true))))
-    (λ c. search rules)
     (λ c κs. sound_means _ (sym c.sound.ensures ∙ c.if-not-sound.false))
     (λ c. told _ _ _ (ap of_step c.run_sound-ran.ensures ∙ run_one _ _)))

@@ -15,11 +15,9 @@ new_floor_spec =
     tie.close
     (tie.spec
     (λ c κs. search rules)
-    (λ c. search rules)
     (λ c κs. search rules)
     (λ c. rw c.empty.ensures (on_false _ (search tests) refl))
     (λ c κs. search rules)
-    (λ c. search rules)
     (λ c κs. search rules)
     (λ c. rw c.empty-then-departments_wrong.ensures (on_true _ (search tests) (on_true _ (search tests) refl)))
     (λ c κs.

@@ -4,10 +4,10 @@ use mathlib.Core.Bool.{Bool}
 use lib.ListN.{length}
 use Rattle.runs.specs.Runs.{refusal_by}
 use Rattle.runs.proofs.HandedLaws.{record_there}
-use Rattle.floor-1.specs.Runs.{run_refusal}
+use Rattle.floor.specs.Runs.{run_refusal}
 use Rattle.commands.specs.Commands.{command_of}
-use Rattle.floor-1.proofs.SoundLaws.{sound_means}
-use Rattle.floor-1.proofs.RunCalls.{run_may, played_refused, played_whole, played_none, played_some}
+use Rattle.floor.proofs.SoundLaws.{sound_means}
+use Rattle.floor.proofs.RunCalls.{run_may, played_refused, played_whole, played_none, played_some}
 use Rattle.steps.proofs.run.Statement.{statement}
 use Rattle.steps.proofs.run.Tie as tie
 
@@ -32,7 +32,7 @@ run_spec =
     (λ c κs. sound_means _ (run_may _ _ (sym (refusal c.before.before.before.before.before) ∙ c.if-refusal-ne0.false)).0)
     (λ c κs. search rules)
     (λ c.
-    let q = c in
-    let p = q in
+    let q = c.before.before in
+    let p = q.before.before.before.before in
     let first = q.decode-first.ensures ∙ ap command_of (q.record_at.ensures ∙ record_there p.args.records.now 0 _ p.if-records-lt8.false) in
     played_whole _ _ _ (refusal p.before.before) p.if-refusal-ne0.false _ (played_some _ p.if-records-lt8.false _ _ _ _ first q.run_sound-ran.ensures c.number.ensures)))

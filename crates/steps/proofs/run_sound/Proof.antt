@@ -83,15 +83,15 @@ looked_at x k a h e full =
     of_use (home x).loop-a.f d a (ap row_department q ∙ row_own d k h) (omega (arith, q, h, full))
 
 turn : (x : Changing) → Turn (head x).loop-a.f (head x).loop-a.c (owning x).department_in-d.result x.loop-passed.found.row
-    x.row_place_lem.result x.box_place-b.result x.station_place-j.result x.change-y.result
+    x.row_place-i.result x.box_place-b.result x.station_place-j.result x.change-y.result
 turn x =
     let o = owning x in
     let d = o.department_in-d in
     record {
-      sound = (head x).loop-a.inv.1;
+      sound = (head x).loop-a.invariant.1;
       department = d.ensures ∙ ap (λ (k : ℕ). let own = department_at (head x).loop-a.f k in department_with own (belonging own (head x).loop-a.c)) o.station_place-near.ensures;
-      taken = let y = x in looking_ends _ _ _ _ _ y.loop2.inv.0 (omega (arith, x.loop-passed-test.left)) y.loop2.inv.1;
-      row = x.row_place_lem.ensures;
+      taken = let y = x in looking_ends _ _ _ _ _ y.loop-passed.invariant.0 (omega (arith, x.loop-passed-test.false)) y.loop-passed.invariant.1;
+      row = x.row_place-i.ensures;
       storage = x.box_place-b.ensures;
       station = x.station_place-j.ensures;
       change =
@@ -99,7 +99,7 @@ turn x =
           gathered_at (head x).loop-a.f d.result _ _ _ _ _ _ _ x.gathered-x.result o.first_row-first.ensures o.share_of-share.ensures
           x.register_of-register.ensures x.gathered-x.ensures in
           ◌∙◌ {b = change_in x.gathered-x.result (head x).loop-a.c}
-          (chosen _ (le-leb _ _ (subst (λ (p : Parts). p.n ≤ 9) (sym g) (head x).loop-a.inv.1.box_most)) x.change-y.ensures)
+          (chosen _ (le-leb _ _ (subst (λ (p : Parts). p.n ≤ 9) (sym g) (head x).loop-a.invariant.1.box_most)) x.change-y.ensures)
           (ap (λ (p : Parts). change_in p (head x).loop-a.c) g);
     }
 
@@ -111,7 +111,7 @@ abbrev asked : Storing → tie.After-refused-refused invariant_loop2 decreases_l
 asked x = x.before.before.before.before.before.before.before
 
 accepted : (x : Storing) → is_refused (changing x).change-y.result.outcome ≡ false
-accepted x = sym (asked x).refused-refused.ensures ∙ x.if-refused.left
+accepted x = sym (asked x).refused-refused.ensures ∙ x.if-refused.false
 
 -- it was not the last: a record is left
 left : (c : tie.Else-over invariant_loop2 decreases_loop2 invariant_loop decreases_loop) → (head (changing (storing c.before))).loop-a.k < length (head (changing (storing c.before))).args.records.now / 8
@@ -154,7 +154,7 @@ run_sound_spec =
     let y = c.loop-passed in
     let z = (home o).loop-a.invariant.1 in
     omega (arith, z.stations _ (looked_at o y.passed _ h refl (looking_full _ _ _ _ _ h y.invariant.1)), z.station_most))
-    (λ c κs. (home c.before.before.before.before.before.before.before).loop-a.inv.1.box_most)
+    (λ c κs. (home c.before.before.before.before.before.before.before).loop-a.invariant.1.box_most)
     (λ c. omega (arith, c.loop-passed-test.true))
     (λ c. omega (arith, c.loop-passed-test.true))
     (λ c.
@@ -166,8 +166,8 @@ run_sound_spec =
     (λ c. search rules)
     (λ c κs. search rules)
     (λ c. search rules)
-    (λ c. omega (arith, place_below _ _ _ c.row_place_lem.ensures (omega arith)))
-    (λ c. omega (arith, place_below _ _ _ c.row_place_lem.ensures (omega arith)))
+    (λ c. omega (arith, place_below _ _ _ c.row_place-i.ensures (omega arith)))
+    (λ c. omega (arith, place_below _ _ _ c.row_place-i.ensures (omega arith)))
     (λ c κs. search rules)
     (λ c. search rules)
     (λ c. omega (arith, place_below _ _ _ c.box_place-b.ensures (omega arith)))
@@ -181,24 +181,24 @@ run_sound_spec =
     (λ c. let x = c.before.before in turn_refused (turn x) _ _ _ (turned_back_lem c) ∙ (head x).loop-a.invariant.2)
     (λ c κs. search rules)
     (λ c κs. search rules)
-    (λ c. let h = place_below _ _ _ (changing c).row_place_lem.ensures (omega arith) in omega (arith, h))
-    (λ c. let h = place_below _ _ _ (changing c).row_place_lem.ensures (omega arith) in omega (arith, h))
+    (λ c. let h = place_below _ _ _ (changing c).row_place-i.ensures (omega arith) in omega (arith, h))
+    (λ c. let h = place_below _ _ _ (changing c).row_place-i.ensures (omega arith) in omega (arith, h))
     (λ c. let h = place_below _ _ _ (changing c).box_place-b.ensures (omega arith) in omega (arith, h))
     (λ c. let h = place_below _ _ _ (changing c).box_place-b.ensures (omega arith) in omega (arith, h))
     (λ c. let h = place_below _ _ _ (changing c).station_place-j.ensures (omega arith) in omega (arith, h))
     (λ c. let h = place_below _ _ _ (changing c).station_place-j.ensures (omega arith) in omega (arith, h))
     (λ c κs. search rules)
-    (λ c. let h = (head (changing c.before)).loop-a.inv.0 in omega (arith, h))
+    (λ c. let h = (head (changing c.before)).loop-a.invariant.0 in omega (arith, h))
     (λ c κs. search rules)
-    (λ c. let x = head (changing (storing c.before)) in let h = x.loop-a.inv.0 in let z = x.good in omega arith)
+    (λ c. let x = head (changing (storing c.before)) in let h = x.loop-a.invariant.0 in omega arith)
     (λ c.
     let x = storing c.before in
     turn_over (turn (changing x)) (accepted x) _ _ x.box_with-storage2.ensures x.shares_with-shares2.ensures _ _ _ _ _ _ (asked x).refused-refused.ensures c.ends-ends.ensures
     c.over.ensures _ c.if-over.true
-    ∙ (head (changing x)).loop-a.inv.2)
+    ∙ (head (changing x)).loop-a.invariant.2)
     (λ c κs. search rules)
     (λ c κs. search rules)
-    (λ c. let h = left c.before.before in let z = (head (changing (storing c.before.before.before))).good in omega arith)
+    (λ c. let h = left c.before.before in omega arith)
     (λ c. let h = left c.before.before in omega arith)
     (λ c.
     let e = c.before.before.before in
@@ -211,5 +211,5 @@ run_sound_spec =
     let next = c.decode-c.ensures ∙ ap command_of (c.record_at.ensures ∙ record_there _ _ _ (omega arith)) in (
       omega arith,
       turn_sound t a _ _ eb es,
-      turn_on t a _ _ eb es _ _ _ _ _ _ (asked x).refused-refused.ensures e.ends-ends.ensures e.over.ensures _ c.if-over.false _ next ∙ (head (changing x)).loop-a.inv.2,
+      turn_on t a _ _ eb es _ _ _ _ _ _ (asked x).refused-refused.ensures e.ends-ends.ensures e.over.ensures _ c.if-over.false _ next ∙ (head (changing x)).loop-a.invariant.2,
     )))
