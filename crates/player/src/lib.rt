@@ -1,4 +1,6 @@
 // Plays a drill file on a new floor.
+#![tactic(auto)]
+
 ghost use Rattle.std.specs.Prelude.{◌≡◌, ◌≤◌};
 ghost use Rattle.floor.specs.Floors.{new_floor_of};
 ghost use Rattle.floor.specs.Runs.{played_in};

@@ -2,6 +2,8 @@
 //
 // The checks only read the floor. Then the records of the plan are written into a buffer and run by one call, so that no floor is
 // moved for a step.
+#![tactic(auto)]
+
 ghost use Rattle.std.specs.Prelude.{◌≡◌, ◌+◌, ◌*◌, ◌<◌, ◌≤◌, length, take, ltb};
 ghost use mathlib.Core.List.{◌++◌, flatten};
 ghost use Rattle.base.specs.Numbers.{quorum};

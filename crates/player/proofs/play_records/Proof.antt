@@ -8,4 +8,4 @@ play_records_spec =
     (tie.spec
     (λ c κs. search rules)
     (λ c κs. search rules)
-    (λ c. rw (← c.before.before.new_floor_lem.ensures) c.run.ensures))
+    (λ c. rw (← c.new_floor-made.ensures) c.run.ensures))

@@ -15,14 +15,14 @@ play_told_spec =
     tie.close
     (tie.spec
     (λ c. search rules)
-    (λ c. sym (length-take-le _ _ (omega (arith, c.before.before.before.before.requires))))
+    (λ c. sym (length-take-le _ _ (omega (arith, c.requires))))
     (λ c κs. search rules)
     (λ c.
     let a = c.before.before.before.before.before in
     c.play_records.ensures
-    ∙ ap (λ (l : List ℕ). played_in (new_floor_of a.args.n a.args.m l).floor a.args.records.now) (told_none a.args.m a.args.told.now a.requires c.before.before.if1.true))
+    ∙ ap (λ (l : List ℕ). played_in (new_floor_of a.args.n a.args.m l).floor a.args.records.now) (told_none a.args.m a.args.told.now a.requires c.if-told-eq0.true))
     (λ c κs. search rules)
     (λ c.
-    let a = c.before.before.before.before in
-    c.play_records2.ensures
-    ∙ ap (λ (l : List ℕ). played_in (new_floor_of a.args.n a.args.m l).floor a.args.records.now) (told_some a.args.m a.args.told.now c.before.if1.false)))
+    let a = c in
+    c.play_records-2.ensures
+    ∙ ap (λ (l : List ℕ). played_in (new_floor_of a.args.n a.args.m l).floor a.args.records.now) (told_some a.args.m a.args.told.now c.if-told-eq0.false)))

@@ -21,9 +21,9 @@ department_at_spec =
     tie.close
     (tie.spec
     (λ c.
-    let s = c.before in
-    let h = sixteen s.args.t1 _ s.well_formed.0 in
-    sym (ap (λ (x : Station). x.department) (get_or-eq_default s.args.t1.stations station0 (omega (arith, h, c.if1.true)))))
+    let s = c in
+    let h = sixteen s.args.f _ s.well_formed.0 in
+    sym (ap (λ (x : Station). x.department) (get_or-eq_default s.args.f.stations station0 (omega (arith, h, c.if-s-ge16.true)))))
     (λ c. search rules)
     (λ c. search rules)
     (λ c. search rules))

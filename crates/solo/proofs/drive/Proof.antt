@@ -14,28 +14,28 @@ use Rattle.solo.proofs.drive.Statement.{statement}
 use Rattle.solo.proofs.drive.Tie as tie
 
 -- Places: behind the reads, behind both phases, and behind the run.
-abbrev start : tie.After-put-phase → tie.Start
+abbrev start : tie.After-put_phase-reads → tie.Start
 start x = x.before.before.before
 
-abbrev reads : tie.After-put-phase2 → tie.After-put-phase
+abbrev reads : tie.After-put_phase-end → tie.After-put_phase-reads
 reads x = x.before.before.before
 
-abbrev phases : tie.After-drive → tie.After-put-phase2
+abbrev phases : tie.After-drive-ran → tie.After-put_phase-end
 phases x = x.before.before.before.before
 
-abbrev entry : tie.After-drive → tie.Start
+abbrev entry : tie.After-drive-ran → tie.Start
 entry x = start (reads (phases x))
 
 -- both phases are written
-written : (x : tie.After-put-phase2) → take x.put_phase2.result x.put_phase2.new.0 ≡ flatten (exchanges_of (start (reads x)).args.f (start (reads x)).args.s)
+written : (x : tie.After-put_phase-end) → take x.put_phase-end.result x.put_phase-end.new.out ≡ flatten (exchanges_of (start (reads x)).args.f (start (reads x)).args.s)
 written x =
-    let r = (reads x).put_phase in
-    let w = x.put_phase2 in
-    plan_written (start (reads x)).args.f (start (reads x)).args.s r.last.0 w.new.0 r.result w.result _ (start (reads x)).requires.2 r.ensures.1 w.ensures.1
+    let r = (reads x).put_phase-reads in
+    let w = x.put_phase-end in
+    plan_written (start (reads x)).args.f (start (reads x)).args.s r.new.out w.new.out r.result w.result _ (start (reads x)).requires.2 r.ensures.1 w.ensures.1
 
 -- and run behind the begin
-ran : (x : tie.After-drive) → x.drive.result ≡ run_of End (entry x).args.f (begin_of (entry x).args.f (entry x).args.s (entry x).args.v) (exchanges_of (entry x).args.f (entry x).args.s)
-ran x = plan_run _ _ _ _ _ _ _ (entry x).requires.0 (entry x).requires.1 x.before.before.encode.ensures (written (phases x)) x.drive.ensures.0
+ran : (x : tie.After-drive-ran) → x.drive-ran.result ≡ run_of End (entry x).args.f (begin_of (entry x).args.f (entry x).args.s (entry x).args.v) (exchanges_of (entry x).args.f (entry x).args.s)
+ran x = plan_run _ _ _ _ _ _ _ (entry x).requires.0 (entry x).requires.1 x.encode-first.ensures (written (phases x)) x.drive-ran.ensures.0
 
 pub drive_spec : {M : Type 1} → statement M
 drive_spec =

@@ -7,7 +7,7 @@ use Rattle.solo.proofs.refusal.Statement.{statement}
 use Rattle.solo.proofs.refusal.Tie as tie
 
 -- where the row is looked at
-abbrev entry : tie.Else4 → tie.Start
+abbrev entry : tie.Else-round-gt65535 → tie.Start
 entry c = c.before.before.before.before.before.before.before.before.before
 
 pub refusal_spec : {M : Type 1} → statement M

@@ -31,27 +31,27 @@ value f s v x e = ap (λ (d : Solo). value_of d.outcome) e ∙ solo_value_lem f 
 
 -- the round and the row are those of the station's department
 abbrev Picked : Type 0
-Picked = tie.After-next-row
+Picked = tie.After-next_row-next
 
 abbrev floor : Picked → Floor
-floor x = x.before.before.before.before.before.before.before.args.f
+floor x = x.args.f
 
 abbrev station : Picked → ℕ
-station x = x.before.before.before.before.before.before.before.args.s
+station x = x.args.s
 
-of_station : (x : Picked) → x.before.before.before.before.department_at_lem.result ≡ department_at (floor x) (station x)
-of_station x = x.before.before.before.before.department_at_lem.ensures
+of_station : (x : Picked) → x.department_at-d.result ≡ department_at (floor x) (station x)
+of_station x = x.department_at-d.ensures
 
 sound_here : (x : Picked) → sound_of (floor x) ≡ true
 sound_here x = search tests
 
-round : (x : Picked) → x.before.round_above.result ≡ round_of (floor x) (station x)
+round : (x : Picked) → x.round_above-round.result ≡ round_of (floor x) (station x)
 round x =
-    x.before.round_above.ensures
-    ∙ ap (λ (k : ℕ). round_above k (station x)) (ap (λ (y : Share). y.highest) x.before.before.share_of.ensures ∙ ap (highest_of (floor x)) (of_station x))
+    x.round_above-round.ensures
+    ∙ ap (λ (k : ℕ). round_above k (station x)) (ap (λ (y : Share). y.highest) x.share_of-share.ensures ∙ ap (highest_of (floor x)) (of_station x))
 
-row : (x : Picked) → x.next_row.result ≡ row_taken (floor x) (station x)
-row x = chosen 128 (sound_here x) x.next_row.ensures ∙ ap (next_row (floor x)) (of_station x)
+row : (x : Picked) → x.next_row-next.result ≡ row_taken (floor x) (station x)
+row x = chosen 128 (sound_here x) x.next_row-next.ensures ∙ ap (next_row (floor x)) (of_station x)
 
 pub solo_finish_spec : {M : Type 1} → statement M
 solo_finish_spec =
@@ -68,11 +68,11 @@ solo_finish_spec =
     (λ c κs. search rules)
     (λ c.
     let p = c.before.before in
-    let e = ends_refused _ _ _ _ _ _ (sound_here p.before) (round p.before) p.refusal.ensures c.before.if2.true c.turned_away2.ensures in
+    let e = ends_refused _ _ _ _ _ _ (sound_here p.before) (round p.before) p.refusal-e.ensures c.if-e-ne0.true c.turned_away-then-e-ne0.ensures in
     (e, (number _ _ _ _ e, value _ _ _ _ e)))
-    (λ c. let d = front_means _ _ _ (sym c.before.refusal.ensures ∙ c.if2.false) in omega (arith, d.left))
+    (λ c. let d = front_means _ _ _ (sym c.refusal-e.ensures ∙ c.if-e-ne0.false) in omega (arith, d.left))
     (λ c κs. let x = c.before.before in (sound_means (floor x) (sound_here x), round x, row x))
     (λ c.
     let p = c.before.before in
-    let e = ends_driven _ _ _ _ _ _ (sound_here p.before) (round p.before) p.refusal.ensures c.before.if2.false c.drive.ensures in
+    let e = ends_driven _ _ _ _ _ _ (sound_here p.before) (round p.before) p.refusal-e.ensures c.if-e-ne0.false c.drive.ensures in
     (e, (number _ _ _ _ e, value _ _ _ _ e))))
