@@ -10,7 +10,6 @@ play_spec =
     (tie.spec
     (λ c κs. search rules)
     (λ c. search rules)
-    (λ c. search rules)
     (λ c κs. search rules)
     (λ c. search rules)
     (λ c κs. search rules)
@@ -18,6 +17,6 @@ play_spec =
     (λ c. let w = start_within _ _ c.read_header-header.ensures.0 _ _ _ _ c.in-Accepted.is in omega arith)
     (λ c. search rules)
     (λ c κs. stations_most _ _ c.read_header-header.ensures.0 _ _ _ _ c.in-Accepted.is)
-    (λ c. header_refused _ _ c.read_header-header.ensures.0 _ _ c.in-Refused.is c.new_floor_lem.ensures)
+    (λ c. header_refused _ _ c.read_header-header.ensures.0 _ _ c.in-Refused.is c.new_floor-made.ensures)
     (λ c.
     header_played _ _ c.read_header-header.ensures.0 _ _ _ _ c.in-Accepted.is _ _ c.departments.ensures.0 c.play_told.ensures))
