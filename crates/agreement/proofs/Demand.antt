@@ -53,7 +53,7 @@ use Rattle.base.specs.Numbers.{quorum}
 use Rattle.agreement.proofs.Alone.{ready, plan_delivers, NoBegin, plan_no_begin}
 
 -- the row that an accepted begin takes is its station's
-begun_row : {f : Floor} {st : Stepped} (s round : ℕ) (v : Suit) → Lengths f → StepCase f (Begin s round v) st → is_refused st.outcome ≡ false
+begun_row : {f : Floor} (s round : ℕ) (v : Suit) {st : Stepped} → Lengths f → StepCase f (Begin s round v) st → is_refused st.outcome ≡ false
     → (row_at st.floor (row_taken f s)).station ≡ s
 unfolding new_row
 begun_row s r v y (turned k t) e = clash refl e

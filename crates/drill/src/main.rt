@@ -1,4 +1,6 @@
 // The program drill: reads a drill file from standard input, plays it, and prints what document 01 says.
+#![tactic(auto)]
+
 ghost use Rattle.std.specs.Prelude.{◌≡◌, [], ◌∷◌, ◌++◌, length, take, ◌≤◌};
 ghost use Rattle.io.specs.Counts.{IsPrefixLen};
 ghost use Rattle.drill.specs.Report.{ascii, decimal_of, state_word, decision_word, panel_line, station_line, station_lines, end_line, report_of};

@@ -1,4 +1,6 @@
 // What the test programs on floors share: the floor that a case starts on, a step and what came of it, rows, boxes and stations in words.
+#![tactic(auto)]
+
 mod start;
 mod words;
 

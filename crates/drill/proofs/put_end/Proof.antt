@@ -8,9 +8,9 @@ use Rattle.drill.proofs.put_end.Tie as tie
 returns : tie.Need-returns
 unfolding ascii end_line
 returns c =
-    let three = c.before.before.put_number2.ensures in
-    let two = c.before.before.before.before.before.before.before.put_number.ensures in
-    let one = c.before.before.before.before.before.before.before.before.before.before.before.before.put.ensures in (
+    let three = c.put_number.ensures in
+    let two = c.put_number-b.ensures in
+    let one = c.put-a.ensures in (
       three.0,
       three.1 ∙ put_more _ _ _ _ _ _ (search rules) two.1 ∙ put_more _ _ _ _ _ _ (search rules) one.1,
     )
@@ -19,11 +19,8 @@ pub put_end_spec : {M : Type 1} → statement M
 put_end_spec =
     tie.close
     (tie.spec
-    (λ c. search rules)
     (λ c κs. search rules)
-    (λ c. search rules)
     (λ c κs. search rules)
-    (λ c. search rules)
     (λ c κs. search rules)
     (λ c. search rules)
     returns)

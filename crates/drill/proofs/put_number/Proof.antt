@@ -9,11 +9,11 @@ use Rattle.drill.proofs.put_number.Tie as tie
 
 returns : tie.Need-returns
 returns c =
-    let one = c.before.before.before.before.before.before in
-    let spelt = one.before.before.before.decimal.ensures in (
-      c.before.before.put2.ensures.0,
-      c.before.before.put2.ensures.1
-          ∙ put_more _ _ _ _ _ _ (search rules) (one.put.ensures.1 ∙ ap (text_put _ _) (spelt.1.1 ∙ decimal_digits _ _ (omega arith) spelt.1.0)),
+    let one = c in
+    let spelt = one.decimal-k.ensures in (
+      c.put.ensures.0,
+      c.put.ensures.1
+          ∙ put_more _ _ _ _ _ _ (search rules) (one.put-a.ensures.1 ∙ ap (text_put _ _) (spelt.1.1.0 ∙ decimal_digits _ _ (omega arith) spelt.1.0)),
     )
 
 pub put_number_spec : {M : Type 1} → statement M

@@ -8,11 +8,11 @@ use Rattle.drill.proofs.put_panel.Tie as tie
 returns : tie.Need-returns
 unfolding ascii panel_line
 returns c =
-    let five = c.before.before.put_number2.ensures in
-    let four = c.before.before.before.before.before.before.before.put_number.ensures in
-    let three = c.before.before.before.before.before.before.before.before.before.before.before.before.put3.ensures in
-    let two = c.before.before.before.before.before.before.before.before.before.before.before.before.before.before.before.before.before.put2.ensures in
-    let one = c.before.before.before.before.before.before.before.before.before.before.before.before.before.before.before.before.before.before.before.before.before.put.ensures in (
+    let five = c.put_number.ensures in
+    let four = c.put_number-d.ensures in
+    let three = c.put-c.ensures in
+    let two = c.put-b.ensures in
+    let one = c.put-a.ensures in (
       five.0,
       five.1
           ∙ put_more _ _ _ _ _ _ (search rules) four.1
@@ -25,14 +25,10 @@ pub put_panel_spec : {M : Type 1} → statement M
 put_panel_spec =
     tie.close
     (tie.spec
-    (λ c. search rules)
     (λ c κs. search rules)
     (λ c κs. search rules)
-    (λ c. search rules)
     (λ c κs. search rules)
-    (λ c. search rules)
     (λ c κs. search rules)
-    (λ c. search rules)
     (λ c κs. search rules)
     (λ c. search rules)
     returns)

@@ -3,43 +3,38 @@ use Rattle.drill.specs.Report.{ascii}
 use Rattle.drill.proofs.put_state.Statement.{statement}
 use Rattle.drill.proofs.put_state.Tie as tie
 
-returns : tie.Need-returns
+returns : tie.Need-returns-in-Idle
 unfolding ascii
-returns c = rw c.before.before.before.before.before.enum_told.given.1 c.before.before.put.ensures
+returns c = rw c.in-Idle.is c.put.ensures
 
-returns_2 : tie.Need-returns-2
+returns_2 : tie.Need-returns-in-Reading
 unfolding ascii
-returns_2 c = rw c.before.before.before.before.before.enum-told2.given.1 c.before.before.put2.ensures
+returns_2 c = rw c.in-Reading.is c.put-in-Reading.ensures
 
-returns_3 : tie.Need-returns-3
+returns_3 : tie.Need-returns-in-Writing
 unfolding ascii
-returns_3 c = rw c.before.before.before.before.before.enum-told3.given.1 c.before.before.put3.ensures
+returns_3 c = rw c.in-Writing.is c.put-in-Writing.ensures
 
-returns_4 : tie.Need-returns-4
+returns_4 : tie.Need-returns-in-Decided
 unfolding ascii
-returns_4 c = rw c.before.before.before.before.before.enum-told4.given.1 c.before.before.put4.ensures
+returns_4 c = rw c.in-Decided.is c.put-in-Decided.ensures
 
-returns_5 : tie.Need-returns-5
+returns_5 : tie.Need-returns-in-Gone
 unfolding ascii
-returns_5 c = rw c.before.before.before.before.before.enum-told5.given.1 c.before.before.put5.ensures
+returns_5 c = rw c.in-Gone.is c.put-in-Gone.ensures
 
 pub put_state_spec : {M : Type 1} → statement M
 put_state_spec =
     tie.close
     (tie.spec
     (λ c. search rules)
+    (λ c κs. search rules)
     (λ c. search rules)
     (λ c κs. search rules)
     (λ c. search rules)
-    (λ c. search rules)
     (λ c κs. search rules)
     (λ c. search rules)
-    (λ c. search rules)
     (λ c κs. search rules)
-    (λ c. search rules)
-    (λ c. search rules)
-    (λ c κs. search rules)
-    (λ c. search rules)
     (λ c. search rules)
     (λ c κs. search rules)
     (λ c. search rules)

@@ -8,12 +8,12 @@ use Rattle.drill.proofs.put_station.Tie as tie
 returns : tie.Need-returns
 unfolding ascii station_line
 returns c =
-    let five = c.before.before.put_decision.ensures in
-    let four = c.before.before.before.before.before.before.put_number2.ensures in
-    let three = c.before.before.before.before.before.before.before.before.before.before.before.put_state.ensures in
-    let two = c.before.before.before.before.before.before.before.before.before.before.before.before.before.before.before.put_number.ensures in
-    let one = c.before.before.before.before.before.before.before.before.before.before.before.before.before.before.before.before.before.before.before.before.put.ensures in
-    let rank = c.before.before.before.before.before.before.before.before.before.before.before.before.before.before.before.before.before.before.before.before.before.before.before.last_rank.ensures in (
+    let five = c.put_decision.ensures in
+    let four = c.put_number-d.ensures in
+    let three = c.put_state-c.ensures in
+    let two = c.put_number-b.ensures in
+    let one = c.put-a.ensures in
+    let rank = c.last_rank-rank.ensures in (
       five.0,
       five.1
           ∙ rw (← rank)
@@ -28,12 +28,9 @@ put_station_spec =
     tie.close
     (tie.spec
     (λ c κs. search rules)
-    (λ c. search rules)
-    (λ c κs. search rules)
-    (λ c. search rules)
     (λ c κs. search rules)
     (λ c κs. search rules)
-    (λ c. search rules)
+    (λ c κs. search rules)
     (λ c. search rules)
     (λ c κs. search rules)
     (λ c κs. search rules)

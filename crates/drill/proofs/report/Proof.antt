@@ -8,31 +8,31 @@ use Rattle.drill.proofs.ReportLaws.{stations_most, end_put, lines_put}
 use Rattle.drill.proofs.report.Statement.{statement}
 use Rattle.drill.proofs.report.Tie as tie
 
-returns : tie.Need-returns
+returns : tie.Need-returns-then-label-eq0
 returns c =
-    let called = c.before.before.put_end.ensures in
-    let named = c.before.before.before.before.before in (
+    let called = c.put_end.ensures in
+    let named = c in (
       (called.0, sym (length-take-le _ _ called.0)),
-      called.1 ∙ end_put _ _ _ named.label.ensures.0 named.before.play.ensures _ (omega arith) (omega (arith, c.before.before.before.before.if1.true)),
+      called.1 ∙ end_put _ _ _ named.label-label.ensures.0 named.play-played.ensures _ (omega arith) (omega (arith, c.if-label-eq0.true)),
     )
 
-put_stations_requires : tie.Need-put-stations-requires
+put_stations_requires : tie.Need-put_stations-b-requires
 put_stations_requires c κs =
-    let named = c.before.before.before.before.before.before.before in
-    (search rules, stations_most _ _ _ named.label.ensures.0 named.before.play.ensures (λ e. omega (arith, c.before.before.before.before.before.before.if1.false)))
+    let named = c in
+    (search rules, stations_most _ _ _ named.label-label.ensures.0 named.play-played.ensures (λ e. omega (arith, c.if-label-eq0.false)))
 
-returns_2 : tie.Need-returns-2
+returns_2 : tie.Need-returns
 unfolding lines_of
 returns_2 c =
-    let three = c.before.before.put_end2.ensures in
-    let two = c.before.before.before.before.before.before.put_stations.ensures in
-    let one = c.before.before.before.before.before.before.before.before.before.before.put_panel.ensures in
-    let named = c.before.before.before.before.before.before.before.before.before.before.before.before.before.before in (
+    let three = c.put_end-2.ensures in
+    let two = c.put_stations-b.ensures in
+    let one = c.put_panel-a.ensures in
+    let named = c in (
       (three.0, sym (length-take-le _ _ three.0)),
       three.1
           ∙ put_more _ _ _ _ _ _ (search rules) two.1
           ∙ put_more _ _ _ _ _ _ (search rules) one.1
-          ∙ lines_put _ _ _ named.label.ensures.0 named.before.play.ensures _ (omega arith) (λ e. omega (arith, c.before.before.before.before.before.before.before.before.before.before.before.before.before.if1.false)),
+          ∙ lines_put _ _ _ named.label-label.ensures.0 named.play-played.ensures _ (omega arith) (λ e. omega (arith, c.if-label-eq0.false)),
     )
 
 pub report_spec : {M : Type 1} → statement M

@@ -11,4 +11,4 @@ behind_label_spec =
     (λ c. search rules)
     (λ c. search rules)
     (λ c κs. search rules)
-    (λ c. behind_told _ _ _ c.before.byte_at.ensures c.from.ensures))
+    (λ c. behind_told _ _ _ c.byte_at.ensures c.from.ensures))

@@ -16,13 +16,13 @@ floor_of_spec =
     (λ c κs. search rules)
     (λ c.
     let t = c.before.before.before.before in
-    start_none _ _ _ _ _ _ t.before.before.byte_at.ensures t.before.byte_at2.ensures t.told.ensures c.before.before.before.if1.true
-    c.before.up_to.ensures c.new_floor_lem.ensures)
+    start_none _ _ _ _ _ _ t.byte_at-n.ensures t.byte_at-m.ensures t.told-count.ensures c.if-count-eq0.true
+    c.up_to.ensures c.new_floor.ensures)
     (λ c κs. search rules)
     (λ c. search rules)
     (λ c κs. search rules)
     (λ c κs. search rules)
     (λ c.
-    let t = c.before.before.before.before in
-    start_some _ _ _ _ _ _ _ t.before.before.byte_at.ensures t.before.byte_at2.ensures t.told.ensures c.before.before.before.if1.false
-    c.before.before.behind_label.ensures c.before.up_to2.ensures c.new_floor2.ensures))
+    let t = c in
+    start_some _ _ _ _ _ _ _ t.byte_at-n.ensures t.byte_at-m.ensures t.told-count.ensures c.if-count-eq0.false
+    c.behind_label.ensures c.up_to-2.ensures c.new_floor-2.ensures))

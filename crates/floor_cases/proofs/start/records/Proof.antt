@@ -11,4 +11,4 @@ records_spec =
     (λ c κs. search rules)
     (λ c. search rules)
     (λ c κs. search rules)
-    (λ c. records_told _ _ _ _ c.before.before.behind_label.ensures c.before.told.ensures c.from.ensures))
+    (λ c. records_told _ _ _ _ c.behind_label.ensures c.told.ensures c.from.ensures))

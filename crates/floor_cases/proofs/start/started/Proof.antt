@@ -10,7 +10,6 @@ started_spec =
     (tie.spec
     (λ c κs. search rules)
     (λ c κs. search rules)
-    (λ c. search rules)
     (λ c κs. search rules)
     (λ c. search rules)
     (λ c κs. search rules)
@@ -18,6 +17,5 @@ started_spec =
     (λ c. search rules)
     (λ c κs. search rules)
     (λ c κs. search rules)
-    (λ c. search rules)
     (λ c κs. search rules)
-    (λ c. ap (λ (x : NewFloor). x.floor) c.before.before.before.before.before.before.before.before.before.before.floor_of.ensures))
+    (λ c. ap (λ (x : NewFloor). x.floor) c.floor_of-made.ensures))

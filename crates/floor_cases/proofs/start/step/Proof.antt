@@ -9,8 +9,7 @@ step_spec =
     tie.close
     (tie.spec
     (λ c κs. search rules)
-    (λ c. search rules)
     (λ c κs. search rules)
     (λ c κs. search rules)
     (λ c κs. search rules)
-    (λ c. ap (λ (x : Stepped). x.floor) c.before.before.step.ensures.0))
+    (λ c. ap (λ (x : Stepped). x.floor) c.step-s.ensures.0))

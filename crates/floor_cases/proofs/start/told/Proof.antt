@@ -10,5 +10,5 @@ told_spec =
     (tie.spec
     (λ c κs. search rules)
     (λ c κs. search rules)
-    (λ c. told_some _ c.before.before.byte_at.result _ c.before.before.byte_at.ensures (omega arith) c.byte_at2.ensures)
-    (λ c. told_none _ _ c.before.byte_at.ensures c.if1.false))
+    (λ c. told_some _ c.byte_at.result _ c.byte_at.ensures (omega arith) c.byte_at-then-byte_at-eq2.ensures)
+    (λ c. told_none _ _ c.byte_at.ensures c.if-byte_at-eq2.false))

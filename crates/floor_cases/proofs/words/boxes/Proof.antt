@@ -3,10 +3,10 @@ use Prim.Native.Nat.{◌≤◌, ◌-◌}
 use Rattle.floor_cases.proofs.words.boxes.Statement.{statement}
 use Rattle.floor_cases.proofs.words.boxes.Tie as tie
 
-abbrev invariant_loop : tie.invariant_loop
+abbrev invariant_loop : tie.invariant-loop-j
 invariant_loop f n j₀ j = (n ≤ 9) × (j ≤ n)
 
-abbrev decreases_loop : tie.decreases_loop
+abbrev decreases_loop : tie.decreases-loop-j
 decreases_loop f n j₀ j = n - j
 
 pub boxes_spec : {M : Type 1} → statement M
