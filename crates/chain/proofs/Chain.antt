@@ -149,7 +149,7 @@ module _ (x : Register) (r : ℕ) (n : ¬ (r ≡ 0)) (behind buffer : List ℕ) 
       record { returns = none; changes = a.leaves; answers = a.frame }
 
 -- an accepted serve says served
-says_served : {f : Floor} {y : Stepped} (p : Phase) (a b : ℕ) → StepCase f (Serve p a b) y → is_refused y.outcome ≡ false → y.outcome ≡ said.Served a
+says_served : {f : Floor} (p : Phase) (a b : ℕ) {y : Stepped} → StepCase f (Serve p a b) y → is_refused y.outcome ≡ false → y.outcome ≡ said.Served a
 says_served p a b (turned k t) e = clash refl e
 says_served p a b (served z d) e = refl
 

@@ -1,4 +1,6 @@
 // The program suite_hand: takes steps and solo finishes on floors that are changed by hand, and says what came of each case.
+#![tactic(auto)]
+
 mod hand;
 mod say;
 mod show;

@@ -1,5 +1,7 @@
 // The program suite_runs: makes new floors, plays drill files on them, writes these, drives stations alone, and says what came
 // of each case.
+#![tactic(auto)]
+
 mod play;
 mod rounds;
 mod write;

@@ -4,10 +4,10 @@ use lib.ListN.{length}
 use Rattle.suite_hand.proofs.lines.Statement.{statement}
 use Rattle.suite_hand.proofs.lines.Tie as tie
 
-abbrev invariant_loop : tie.invariant_loop
+abbrev invariant_loop : tie.invariant-loop-at
 invariant_loop input at₀ at = at ≤ length input
 
-abbrev decreases_loop : tie.decreases_loop
+abbrev decreases_loop : tie.decreases-loop-at
 decreases_loop input at₀ at = length input - at
 
 pub lines_spec : {M : Type 1} → statement M

@@ -4,10 +4,10 @@ use lib.ListN.{length}
 use Rattle.suite_hand.proofs.show.steps.Statement.{statement}
 use Rattle.suite_hand.proofs.show.steps.Tie as tie
 
-abbrev invariant_loop : tie.invariant_loop
+abbrev invariant_loop : tie.invariant-loop-k
 invariant_loop records count f₀ k₀ f k = (8 * count ≤ length records) × (k ≤ count)
 
-abbrev decreases_loop : tie.decreases_loop
+abbrev decreases_loop : tie.decreases-loop-k
 decreases_loop records count f₀ k₀ f k = count - k
 
 pub steps_spec : {M : Type 1} → statement M
