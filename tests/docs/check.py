@@ -1,8 +1,8 @@
 #!/usr/bin/env python3
 """Checks what the documents cite. `--write` first sets the list of line counts under "What a reader must believe".
 
-- Every path of the repository exists. `floor/specs/Step` is short for crates/floor/specs/Step.antt, and in a document about a crate
-  `specs/Step` for that of the crate. A reading of docs/DECISIONS.md is there.
+- Every path of the repository exists; one in the out/ of a crate is what `rt` makes there. `floor/specs/Step` is short for
+  crates/floor/specs/Step.antt, and in a document about a crate `specs/Step` for that of the crate. A reading of docs/DECISIONS.md is there.
 - Names in backticks before a path, "`a`, `b` (path)" or "`a` in path", are words of that file or of a file in that folder, outside
   comments; so are the names behind it in "(`path`, `a`)", and the calls in the table of calls. Code behind it, "(path), `last: u16`",
   stands there as it is, and so does a quotation: path, "text".
@@ -25,7 +25,7 @@ PATH = re.compile(
     rf"|(?<=`)(\w+/(?:{PARTS})(?:/\w+)?|(?:{PARTS})/\w+)(?=`)"  # a short form
 )
 CODE = re.compile(r"`([^`]+)`")
-NAME = re.compile(r"[\w·'-]+")
+NAME = re.compile(r"[\w◌'-]+")
 mistakes, checked = [], 0
 
 
@@ -36,8 +36,18 @@ def check(holds, where, what):
         mistakes.append(f"{where}: {what}")
 
 
+def made(crate):
+    """What `rt` makes in the out/ of a crate: a program and what it printed, or a library for C."""
+    if (TOP / "crates" / crate / "src/main.rt").exists():
+        return [crate, "stdout"]
+    return [f"lib{crate}.a"] if re.search(rf"^{crate} staticlib\b", (TOP / "crates.txt").read_text(), re.M) else []
+
+
 def meant(path, crates):
-    """The files and folders that a path means, in a document that is about these crates."""
+    """The files and folders that a path means, in a document that is about these crates; of what `rt` makes, the crate's folder."""
+    out = re.fullmatch(r"crates/(\w+)/out/(.+)", path)
+    if out:
+        return [TOP / "crates" / out[1]] if out[2] in made(out[1]) else []
     first = path.split("/")[0]
     tries = [path] if re.fullmatch(ROOTS, first) else [f"crates/{path}"]
     if re.fullmatch(PARTS, first):

@@ -1,11 +1,12 @@
 #!/usr/bin/env python3
 """The table of docs/COSTS.md, "Lines and check times", and what the must-fail edits and the faults may cost.
 
-    costs.py LOG    writes the table anew: lines and edits as the tree has them, seconds as the output of a gate, LOG, has them, put into those
-                    of the machine of the table before by the crates whose lines it has already
+    costs.py --lines [NAME=CHECK,EDITS ..]
+        writes the table anew: lines and edits as the tree has them; the seconds stay, but those of a crate that is named, which were measured:
+        of a check of it from nothing, and of all its edits. A crate that is new to the table has to be named
 
 `mistakes` says where the table is not the tree's and where the tree is over the budget of CONTRIBUTING.md, "What a wish may add to the
-gate". The seconds of an edit are those of a check of its crate.
+gate". The seconds of an edit are reckoned as those of a check of its crate.
 """
 import re
 import sys
@@ -22,9 +23,14 @@ FAULTS, FAULTS_A_WISH = 150, 15
 CODE, TESTS = 45, 60
 
 
+def all_crates():
+    """The crates, in the order of crates.txt."""
+    return re.findall(r"^(\w+)[^:#\n]*:", (TOP / "crates.txt").read_text(), re.M)
+
+
 def counted():
     """Of each crate, in the order of crates.txt: lines of src, specs and proofs, and must-fail edits."""
-    for crate in re.findall(r"^(\w+):", (TOP / "crates.txt").read_text(), re.M):
+    for crate in all_crates():
         folder = TOP / "crates" / crate
         files = [[f for f in (folder / part).rglob("*") if f.suffix in (".rt", ".antt")] for part in ("src", "specs", "proofs")]
         lines = [sum(len(f.read_text().splitlines()) for f in found) for found in files]
@@ -55,22 +61,22 @@ def mistakes():
             yield f"docs/COSTS.md: `{name}` takes {row[4]} s to check, {most} are the most before it is split"
 
 
-def write(log):
+def write(measured):
+    """Writes the table, with these seconds of some crates."""
     page = PAGE.read_text()
-    check = {name: int(s) for name, s in re.findall(r"^rt: (\w+) proved \((\d+) s\)", log, re.M)}
-    before = {name: tuple(map(int, numbers)) for name, *numbers in ROW.findall(TABLE.search(page)[1])}
-    same = [name for name, numbers in counted() if before.get(name, ())[:3] == numbers[:3]]
-    scale = sum(before[name][4] for name in same) / sum(check[name] for name in same)
-    print(f"the table's machine takes {scale:.2f} of the log's seconds, by {', '.join(same)}")
-    edits = {}
-    for name, label, s in re.findall(r"^rt: must-fail (\w+)/(\w+): refused.*?(\d+) s\)$", log, re.M):
-        if (TOP / "crates" / name / "must-fail" / f"{label}.edit").exists():
-            edits[name] = edits.get(name, 0) + int(s)
-    rows = [(f"`{name}`", *numbers, round(scale * check[name]), round(scale * edits.get(name, 0))) for name, numbers in counted()]
+    seconds = {name: tuple(map(int, numbers[-2:])) for name, *numbers in ROW.findall(TABLE.search(page)[1])} | measured
+    tree = dict(counted())
+    wrong = sorted(set(measured) - set(tree)) + [name for name in tree if name not in seconds]
+    if wrong:
+        sys.exit(f"costs.py: {', '.join(wrong)}: a crate of crates.txt has seconds, and nothing else")
+    rows = [(f"`{name}`", *numbers, *seconds[name]) for name, numbers in tree.items()]
     rows.append(("all", *map(sum, zip(*(row[1:] for row in rows)))))
     text = "".join("| " + " | ".join(map(str, row)) + " |\n" for row in rows)
     PAGE.write_text(TABLE.sub(lambda _: HEAD + text, page))
 
 
 if __name__ == "__main__":
-    write(Path(sys.argv[1]).read_text())
+    words = [re.fullmatch(r"(\w+)=(\d+),(\d+)", word) for word in sys.argv[2:]]
+    if sys.argv[1:2] != ["--lines"] or None in words:
+        sys.exit(__doc__)
+    write({m[1]: (int(m[2]), int(m[3])) for m in words})

@@ -2,15 +2,22 @@
 """Which files of definitions the public contracts and the statement of demand 3 rest on, by what they import.
 
 The public calls are those of the table of calls in docs/GUARANTEES.md. A contract rests on the files of the definitions that it names,
-a file of definitions on every file that it imports. The structs and enums, which a file imports from `specs.declared`, are not counted.
+a file of definitions on every file that it imports. The structs and enums, which a file imports from `specs.declared`, are not counted,
+nor is what comes from a library of the toolchain.
 """
 import re
 from pathlib import Path
+from costs import all_crates
 
 TOP = Path(__file__).resolve().parents[2]
 DEMAND = {"crates/agreement/specs/Demand.antt", "crates/agreement/specs/Words.antt"}
-IMPORT = r"use Rattle·(\w+)(?:·specs)?\.specs\.(\w+)"
-WORD = r"(?<![\w·'-])%s(?![\w·'-])"
+IMPORT = r"use Rattle\.(\w+)\.specs\.(\w+)"
+WORD = r"(?<![\w◌'-])%s(?![\w◌'-])"
+
+
+def of_crates(imports):
+    """The files of the definitions among (crate, module), those of this repository's crates."""
+    return [f"crates/{crate}/specs/{module}.antt" for crate, module in imports if module != "declared" and (TOP / "crates" / crate).is_dir()]
 
 
 def public_calls(guarantees):
@@ -29,7 +36,7 @@ def named_by(source, name):
     promise = found[0][found[0].index("ensures"):]
     for crate, module, names in re.findall(rf"^ghost {IMPORT}\.\{{(.*?)\}};", text, re.M):
         if any(re.search(WORD % re.escape(n), promise) for n in names.split(", ")):
-            yield f"crates/{crate}/specs/{module}.antt"
+            yield from of_crates([(crate, module)])
 
 
 def closure(files):
@@ -39,14 +46,13 @@ def closure(files):
         file = todo.pop()
         if file not in seen:
             seen.add(file)
-            imports = re.findall(rf"^{IMPORT}", (TOP / file).read_text(), re.M)
-            todo += [f"crates/{crate}/specs/{module}.antt" for crate, module in imports if module != "declared"]
+            todo += of_crates(re.findall(rf"^{IMPORT}", (TOP / file).read_text(), re.M))
     return seen
 
 
 def in_order(files):
     """By crate as in crates.txt, within a crate as in its specs/Lib.antt."""
-    for crate in re.findall(r"^(\w+):", (TOP / "crates.txt").read_text(), re.M):
+    for crate in all_crates():
         folder = f"crates/{crate}/specs"
         lib = TOP / folder / "Lib.antt"
         modules = re.findall(r"^pub mod (\w+)", lib.read_text(), re.M) if lib.exists() else []

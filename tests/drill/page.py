@@ -1,5 +1,6 @@
-"""page.py PAGE PROGRAM LIBRARY: runs the commands of a page, its blocks marked sh, in one shell, with PROGRAM for target/bin/drill and LIBRARY
-for target/staticlib/libdrill_file.a. Each has to print what stands in the block behind it, or nothing where no block stands there."""
+"""page.py PAGE PROGRAM LIBRARY: runs the commands of a page, its blocks marked sh, in one shell, with PROGRAM for crates/drill/out/drill and
+LIBRARY for crates/drill_file_c/out/libdrill_file_c.a. Each has to print what stands in the block behind it, or nothing where no block
+stands there."""
 import pathlib
 import re
 import subprocess
@@ -9,7 +10,7 @@ page, program, library = pathlib.Path(sys.argv[1]), sys.argv[2], sys.argv[3]
 END = "===== a command of the page ends here ====="
 blocks = re.findall(r"^```sh\n(.*?)^```\n(?:\n```\n(.*?)^```\n)?", page.read_text(), re.M | re.S)
 script = "".join(f"{command}echo '{END}'\n" for command, _ in blocks)
-for there, here in ("target/bin/drill", program), ("target/staticlib/libdrill_file.a", library):
+for there, here in ("crates/drill/out/drill", program), ("crates/drill_file_c/out/libdrill_file_c.a", library):
     assert there in script, f"{page.name} does not name {there}"
     script = script.replace(there, here)
 done = subprocess.run(["bash", "-euo", "pipefail", "-c", script], stdout=subprocess.PIPE, text=True, cwd=page.parent.parent)
