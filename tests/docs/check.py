@@ -7,13 +7,14 @@
   comments; so are the names behind it in "(`path`, `a`)", and the calls in the table of calls. Code behind it, "(path), `last: u16`",
   stands there as it is, and so does a quotation: path, "text".
 - The list of definitions has the right files, stars, line counts and sums.
+- What C calls is in the table of calls, and has the parameters and clauses of the call of that name which stands there besides.
 - The lines of the box on a socket that docs/BOX-MAKERS.md shows are those of the program.
 - The lines and edits in docs/COSTS.md are the tree's, and the tree is within the gate's budget (costs.py).
 """
 import re
 import sys
 import costs
-from rests_on import TOP, WORD, believed, in_order
+from rests_on import TOP, WORD, believed, contract, in_order, public_calls
 
 GUARANTEES = "docs/GUARANTEES.md"
 DOCS = [GUARANTEES, "README.md", "CONTRIBUTING.md", "docs/DECISIONS.md", "docs/PROTOCOL.md", "docs/BOX-MAKERS.md", "docs/DRILLS.md", "docs/COSTS.md"]
@@ -121,6 +122,18 @@ def check_counts(lines, write):
         check(there == wanted, f"{GUARANTEES}:{first + i + 1}", f"has {there.strip()}\n    should have {wanted.strip()}")
 
 
+def check_exports(lines):
+    """The functions for C, of the libraries for C, and those of the same names that they call."""
+    calls = list(public_calls("\n".join(lines)))
+    for crate in re.findall(r"^(\w+) staticlib\b", (TOP / "crates.txt").read_text(), re.M):
+        for file in sorted((TOP / "crates" / crate / "src").rglob("*.rt")):
+            source = str(file.relative_to(TOP))
+            for name in re.findall(r'extern "C" fn (\w+)', file.read_text()):
+                places = [place for place, n in calls if n == name]
+                said = {re.sub(r"[\s,]+", " ", contract(place, name)[1]).replace("( ", "(").replace(" )", ")") for place in places}
+                check(source in places and len(places) == 2 and len(said) == 1, source, f"`{name}` is not as in the table of calls: {places}")
+
+
 def check_shown():
     """What docs/BOX-MAKERS.md shows of the box on a socket is what stands there between its marks."""
     program = (TOP / "tests/box/box.c").read_text()
@@ -137,6 +150,7 @@ for doc in DOCS:
     lines = (TOP / doc).read_text().split("\n")
     if doc == GUARANTEES:
         check_counts(lines, "--write" in sys.argv)
+        check_exports(lines)
     crates = re.findall(r"[Cc]rate `(\w+)`", "\n".join(lines))
     for i, line in enumerate(lines):
         check_line(f"{doc}:{i + 1}", line, crates, re.findall(r"^(\d+)\. ", decisions, re.M))

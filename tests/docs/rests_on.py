@@ -27,13 +27,19 @@ def public_calls(guarantees):
             yield source, name
 
 
+def contract(source, name):
+    """The text of a source file, and in it a public call's parameters and clauses."""
+    text = (TOP / source).read_text() if (TOP / source).exists() else ""
+    found = re.search(rf'^pub (?:extern "C" )?fn {name}(\(.*?)\n\{{', text, re.S | re.M)
+    if not found or "requires" in found[1] or "ensures" not in found[1]:
+        raise ValueError(f"`{name}` in {source} is no public function with an `ensures` and without a `requires`")
+    return text, found[1]
+
+
 def named_by(source, name):
     """The files of the definitions that the contract of a public call names."""
-    text = (TOP / source).read_text() if (TOP / source).exists() else ""
-    found = re.search(rf'^pub (?:extern "C" )?fn {name}\(.*?\n\{{', text, re.S | re.M)
-    if not found or "requires" in found[0] or "ensures" not in found[0]:
-        raise ValueError(f"`{name}` in {source} is no public function with an `ensures` and without a `requires`")
-    promise = found[0][found[0].index("ensures"):]
+    text, found = contract(source, name)
+    promise = found[found.index("ensures"):]
     for crate, module, names in re.findall(rf"^ghost {IMPORT}\.\{{(.*?)\}};", text, re.M):
         if any(re.search(WORD % re.escape(n), promise) for n in names.split(", ")):
             yield from of_crates([(crate, module)])
