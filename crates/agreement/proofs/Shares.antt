@@ -19,7 +19,6 @@ use Rattle.floor.proofs.FreeLaws.{next_own}
 use Rattle.attempts.proofs.UsedLaws.{used_more, used_full}
 use Rattle.commands.specs.declared.Command.TheVariants.{Begin}
 use Rattle.floor.specs.Step.{step_of}
-use Rattle.attempts.specs.declared.State.TheVariants.{Decided, Gone}
 use Rattle.floor.specs.declared.Floor.{Floor}
 use Rattle.commands.specs.declared.Outcome.{Outcome}
 use Rattle.commands.specs.declared.Outcome.TheVariants as said

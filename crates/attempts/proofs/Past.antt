@@ -7,7 +7,7 @@ use mathlib.Core.Logic.{inl, inr}
 use mathlib.Core.Bool.{Bool, false}
 use mathlib.Core.List.{List}
 use lib.Dec.{ltb}
-use lib.ListN.{length, set, length-map, get_or-eq_default}
+use lib.ListN.{length, set, get_or-eq_default}
 use lib.Seq.{set_out}
 use borrow.Author.Tests.{ltb-true}
 use mir.Val.{Val}

@@ -1,5 +1,5 @@
 -- What each department has of a floor: its share stored and read, and which rows are in use.
-use Prim.Native.Nat.{ℕ, ◌-◌, ◌<◌}
+use Prim.Native.Nat.{ℕ, ◌<◌}
 use native.Mathlib.Omega.{arith}
 use mathlib.Core.Path.{◌≡◌, refl, sym, subst}
 use Rattle.register.specs.declared.Department.{Department}

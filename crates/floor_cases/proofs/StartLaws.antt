@@ -4,7 +4,6 @@ use mathlib.Core.List.{List}
 use Prim.Native.Nat.{ℕ, ◌+◌}
 use lib.ListN.{get_or, take, drop, replicate}
 use borrow.Author.Tests.{eq-eqb, ne_eqb}
-use Rattle.base.specs.Choice.{when◌then◌else◌}
 use Rattle.base.proofs.Choices.{on_true, on_false}
 use Rattle.floor.specs.Floors.{new_floor_of}
 use Rattle.floor.specs.declared.NewFloor.{NewFloor}

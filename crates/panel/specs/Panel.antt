@@ -14,7 +14,7 @@ use Rattle.attempts.specs.declared.Row as concrete
 use Rattle.attempts.specs.declared.State.{State}
 use Rattle.attempts.specs.declared.State.TheVariants.{Idle, Reading, Writing, Decided, Gone}
 use Rattle.attempts.specs.declared.Station as seated
-use Rattle.floor.specs.Floors.{station_at, row_at, register_at, department_at, InUse}
+use Rattle.floor.specs.Floors.{station_at, row_at, register_at, InUse}
 use Rattle.floor.specs.declared.Floor.{Floor}
 use Rattle.commands.specs.Commands.{command_of}
 use Rattle.commands.specs.declared.Command.{Command}

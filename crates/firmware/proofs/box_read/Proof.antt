@@ -1,5 +1,4 @@
 use borrow.Author.Rules.{rules}
-use borrow.Author.Tests.{eqb-true, eqb-false, not-true, not-false}
 use mathlib.Core.Logic.{inl, inr, ⊎_elim}
 use mathlib.Core.Path.{refl}
 use Rattle.firmware.proofs.CallLaws.{read_16, read_17, read_refused, read_ends_0, read_ends_100}

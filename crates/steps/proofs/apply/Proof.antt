@@ -1,6 +1,5 @@
 use borrow.Author.Rules.{rules}
 use mathlib.Core.Path.{◌≡◌, ap, sym, ◌∙◌}
-use borrow.Author.Tests.{not-true, not-false}
 use Rattle.commands.specs.Outcomes.{number_of, value_of}
 use Rattle.commands.specs.declared.Command.{Command}
 use Rattle.floor.specs.Step.{apply_of, refusal_of, value_said}

@@ -1,5 +1,4 @@
 use borrow.Author.Rules.{rules}
-use Rattle.base.specs.Choice.{when◌then◌else◌}
 use Rattle.base.specs.Records.{record_at}
 use Rattle.base.proofs.Tests.{picks}
 use Rattle.cases.specs.Cases.{record_of}

@@ -1,7 +1,8 @@
 use mathlib.Core.Path.{◌≡◌, ◌∙◌, ap}
+use native.Mathlib.Omega.{arith}
 use borrow.Author.Rules.{rules}
 use lib.ListN.{length}
-use Rattle.firmware.specs.Serve.{served_in, serving}
+use Rattle.firmware.specs.Serve.{served_in}
 use Rattle.firmware.proofs.ServeLaws.{ends_turned, twelve, ends_short, ends_served}
 use Rattle.firmware.proofs.serve.box_serve.Statement.{statement}
 use Rattle.firmware.proofs.serve.box_serve.Tie as tie
@@ -26,7 +27,7 @@ box_serve_spec =
     (λ c. search rules)
     (λ c.
     let e = c.write_frame-written.ensures in
-    ends_short _ _ _ _ (c.serve_parsed-served.ensures ∙ ap (served_in _) c.read_frame.ensures.0) _ _ c.in-Served.is _ _ _ e.0 e.1.0 e.1.1 c.if-written-ne0.true)
+    ends_short _ _ _ _ (c.serve_parsed-served.ensures ∙ ap (served_in _) c.read_frame.ensures.0) _ _ c.in-Served.is _ _ _ e.0 e.1.0 e.1.1 (λ z. omega arith))
     (λ c κs. sized c)
     (λ c. search rules)
     (λ c. ends_turned _ _ _ _ (c.serve_parsed-served.ensures ∙ ap (served_in _) c.read_frame.ensures.0) _ c.in-TurnedAway.is)
@@ -34,4 +35,4 @@ box_serve_spec =
     (λ c. search rules)
     (λ c.
     let e = c.write_frame-written.ensures in
-    ends_served _ _ _ _ (c.serve_parsed-served.ensures ∙ ap (served_in _) c.read_frame.ensures.0) _ _ c.in-Served.is _ _ _ e.0 e.1.0 e.1.1 c.if-written-ne0.false _ c.store.ensures))
+    ends_served _ _ _ _ (c.serve_parsed-served.ensures ∙ ap (served_in _) c.read_frame.ensures.0) _ _ c.in-Served.is _ _ _ e.0 e.1.0 e.1.1 (omega arith) _ c.store.ensures))
