@@ -9,7 +9,7 @@ serve_refusal_spec =
     tie.close
     (tie.spec
     (λ c κs. search rules)
-    (λ c. serve_8 _ _ _ _ _ c.unknown-unknown.ensures c.if-unknown.true)
+    (λ c. serve_8 _ _ _ _ _ c.unknown-unknown.ensures (search rules))
     (λ c. serve_13 _ _ _ _ _ c.unknown-unknown.ensures (search rules) c.if-x.true)
     (λ c κs. search rules)
     (λ c.
