@@ -4,7 +4,7 @@
 - source: the functions of crates/*/src that it calls, found by their names, have no `/`, no `%` and no call whose name speaks of a
   division. Contracts may divide: they are no code. Each function that the module calls is among those found.
 - module: the LLVM module that the toolchain makes of a program that calls `solo_finish`, before it is optimised. The program is made
-  here and is not proved (tests/build.py).
+  here and is not proved; what checks the toolchain then puts in are taken out (tests/build.py).
 - machine: that module as machine code, for x86-64 and for a Cortex-M0, which has no division instruction, so that a division there is a
   call of a library's routine; each as it stands and optimised. What may be called outside the module is listed in OUTSIDE.
 
@@ -17,6 +17,7 @@ import re
 import shutil
 import subprocess
 import sys
+import tempfile
 
 HERE = pathlib.Path(__file__).resolve().parent
 TOP = HERE.parents[1]
@@ -79,8 +80,9 @@ class Source:
             parts = file.relative_to(tree / "crates").with_suffix("").parts
             module = "::".join([parts[0], *(p for p in parts[2:] if p not in ("lib", "main", "mod"))])
             text = without_clauses(file.read_text())
-            for item in re.finditer(r"\buse ((?:\w+::)+(\w+));", text):
-                self.used[f"{module}::{item[2]}"] = (module, item[1])
+            for item in re.finditer(r"\buse ((?:\w+::)+)(\w+|\{[^{}]*\});", text):
+                for name in re.findall(r"\w+", item[2]):
+                    self.used[f"{module}::{name}"] = (module, item[1] + name)
             for item in re.finditer(r"\bfn (\w+)\s*\(", text):
                 start = text.index("{", item.end())
                 name = f"{module}::{item[1]}"
@@ -141,7 +143,7 @@ PROGRAM = """fn main() {
 
 def module_of(tree, out):
     """The module of a program that calls `solo_finish`, as text."""
-    return build.as_text(build.lowered(tree, out, "finish", PROGRAM, "suits floor steps solo"))
+    return build.lowered(tree, out, "finish", PROGRAM, "suits floor steps solo")
 
 
 def check_module(text):
@@ -222,9 +224,7 @@ def check(tree, out):
 
 def faulty(tree, changes):
     """A copy of the source with a fault in it."""
-    shutil.rmtree(tree, ignore_errors=True)
     for crate in (TOP / "crates").iterdir():
-        build.links(crate, tree / "crates" / crate.name, "src")
         shutil.copytree(crate / "src", tree / "crates" / crate.name / "src")
     shutil.copy(TOP / "crates.txt", tree)
     for name, old, new in changes:
@@ -239,7 +239,9 @@ def try_fault(number, entry):
     whole = re.fullmatch(r"# (.*)\n((?:file: .*\nold: .*\nnew: .*\n)+)noticed: (.*)\n?", entry)
     assert whole, f"faults.txt: an entry is not as its head says: {entry}"
     changes = re.findall(r"file: (.*)\nold: (.*)\nnew: (.*)\n", whole[2])
-    _, wrong = check(faulty(OUT / "copy" / str(number), changes), OUT / "faulty" / str(number))
+    # Outside the checkout, as in tests/build.py.
+    with tempfile.TemporaryDirectory(prefix="division-") as tree:
+        _, wrong = check(faulty(pathlib.Path(tree), changes), OUT / "faulty" / str(number))
     told = [kind for kind in ("source", "module", "machine") if any(line.startswith(kind) for line in wrong)]
     return whole[1], whole[3], " ".join(told) or "nothing", wrong
 
