@@ -3,7 +3,7 @@
 
 usage: python3 tools/respell.py [TOP]
 
-Run once, on the files that /opt/rattle/port/port.py has turned. It goes over crates/*/specs, crates/*/proofs, crates/*/src and the edits of
+Run once, on the files that port.py of the toolchain has turned. It goes over crates/*/specs, crates/*/proofs, crates/*/src and the edits of
 crates/*/must-fail. A name is turned where a file of specs/ or proofs/ declares it and the file at hand does not import it from a library
 of the toolchain. Names of functions, types and modules, of C, and strings stay. The choice of crates/base/specs/Choice.antt becomes
 `when◌then◌else◌`: the toolchain's library has an `if◌then◌else◌` that binds otherwise, and `rt ci` keeps that name for it.
