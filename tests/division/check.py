@@ -26,14 +26,17 @@ import build
 OUT = TOP / "target" / "division-test"
 START = "solo::solo_finish"
 # What a walk that lost its way would not find.
-KNOWN = {"plans::round_above", "plans::put_exchange", "base::put_bytes", "base::majority", "base::split32", "commands::encode", "commands::decode", "steps::run_sound", "runs::record_at", "steps::next_sound", "steps::free::better", "steps::free::all_served", "steps::share_of", "places::lower", "attempts::rows::waits_at", "attempts::rows::department_of", "register::box_with", "parts::kinds::change", "parts::begin::larger", "requests::masks::count_below", "register::rmw_write"}
-# Calls of no function of the source: the number of ones of a number, and the length of a slice.
-BUILT_IN = {"u16::count_ones", "len"}
-WORDS = {"if", "while", "match", "return", "loop", "else", "let", "in", "as"}
+KNOWN = {"plans::round_above", "plans::put_exchange", "base::put_bytes", "base::majority", "base::split32", "commands::encode", "commands::decode", "steps::run_sound", "steps::turn", "runs::record_at", "steps::free::next_sound", "steps::free::better", "steps::free::all_served", "steps::stations_below", "places::lower", "attempts::rows::waits_at", "attempts::rows::department_of", "parts::kinds::change", "parts::begin::begin", "requests::masks::count_below", "register::Register::rmw_write", "register::ByDepartment::with"}
+# Calls of no function of the source: cases of std's enums, and std's functions and methods. What these do is in the module.
+BUILT_IN = {"Some", "Ok", "Err", "len", "get", "copied", "iter", "all", "filter", "take", "count", "contains", "copy_from_slice", "enumerate", "count_ones", "min", "max", "saturating_sub"}
+BUILT_IN |= {"is_some", "is_none_or", "map_or", "unwrap_or", "u16::from", "u32::from", "usize::from", "u16::from_be_bytes", "u32::from_be_bytes"}
+WORDS = {"if", "while", "for", "match", "return", "loop", "else", "let", "in", "as"}
+# What the module has beside the functions of the source: std's, the body of a closure and its calls, and what drops a value.
+MADE = re.compile(r"core::.*|.*::fn::.*|.*::Destruct\+\+.*|.*PartialEq::eq")
 NAMES_DIVISION = re.compile(r"(?i)div|rem(_|$)|modulo")
-# What the code may call outside the module: copies, zeros, the number of ones, and the product of two numbers of 64 bits, by which a
-# Cortex-M0 finds the place of a box or of a station in the code as it stands.
-OUTSIDE = re.compile(r"memcpy|memmove|memset|__aeabi_mem(cpy|move|clr)[48]?|__aeabi_lmul|llvm\.(memmove|memset|ctpop)\.[\w.]+")
+# What the code may call outside the module: copies, zeros, the number of ones, the product of two numbers of 64 bits, by which a Cortex-M0
+# finds the place of a box or of a station in the code as it stands, and the trap at a place of the library that is proved not to be reached.
+OUTSIDE = re.compile(r"memcpy|memmove|memset|__aeabi_mem(cpy|move|clr)[48]?|__aeabi_lmul|llvm\.(memmove|memset|ctpop)\.[\w.]+|llvm\.trap")
 # The machines, and on each the instructions that go elsewhere: x86-64, and a Cortex-M0.
 JUMPS = {"x86_64-unknown-linux-gnu": r"call\w*|j\w+", "thumbv6m-none-eabi": r"b|bl|blx|bx|b(eq|ne|hs|lo|mi|pl|vs|vc|hi|ls|ge|lt|gt|le)"}
 BUILDS = [(target, level) for target in JUMPS for level in ("-O0", "-O3")]
@@ -75,7 +78,7 @@ class Source:
     """The functions of the crates, by their whole names, with their bodies."""
 
     def __init__(self, tree):
-        self.bodies, self.places, self.used = {}, {}, {}
+        self.bodies, self.places, self.used, self.methods = {}, {}, {}, {}
         for file in sorted(tree.glob("crates/*/src/**/*.rt")):
             parts = file.relative_to(tree / "crates").with_suffix("").parts
             module = "::".join([parts[0], *(p for p in parts[2:] if p not in ("lib", "main", "mod"))])
@@ -83,9 +86,15 @@ class Source:
             for item in re.finditer(r"\buse ((?:\w+::)+)(\w+|\{[^{}]*\});", text):
                 for name in re.findall(r"\w+", item[2]):
                     self.used[f"{module}::{name}"] = (module, item[1] + name)
-            for item in re.finditer(r"\bfn (\w+)\s*\(", text):
+            blocks = [(m.end(), closed(text, m.end() - 1), m[1]) for m in re.finditer(r"^impl\b(?:<[^{}()]*?>)? ([^{}]+?) \{", text, re.M)]
+            for item in re.finditer(r"\bfn (\w+)\s*(?:<[^()]*>)?\(", text):
                 start = text.index("{", item.end())
                 name = f"{module}::{item[1]}"
+                for head in (head for first, end, head in blocks if first < start < end):
+                    trait, _, kind = re.sub(r"<(\w+)>", lambda m: m[1].title(), head).rpartition(" for ")
+                    kind = kind if trait else re.sub(r"<.*", "", head)
+                    name = f"{parts[0]}::{(kind + trait if trait else kind)[0].upper()}{(kind + trait if trait else kind)[1:]}::{item[1]}"
+                    self.methods.setdefault(item[1], {})[name] = kind
                 self.bodies[name] = text[start : closed(text, start)]
                 self.places[name] = (file.relative_to(tree), text.count("\n", 0, start))
 
@@ -103,6 +112,20 @@ class Source:
             return None
         raise LookupError(path)
 
+    def called(self, module, path, method):
+        """The functions that a call may mean: a method is told by its name alone."""
+        *kind, last = path.split("::")
+        named = self.methods.get(last, {})
+        if method or kind and kind[-1] in named.values():
+            found = {name for name in named if method or named[name] == kind[-1]}
+            if found or path in BUILT_IN:
+                return found
+            raise LookupError(path)
+        if path in BUILT_IN:
+            return set()
+        callee = self.meant(module, path)
+        return {callee} if callee else set()
+
     def check(self):
         """What each function reached calls, and what is wrong."""
         calls, wrong, left = {}, [], [START]
@@ -116,19 +139,18 @@ class Source:
             wrong += [f"{here(m.start())} has `{m[0]}`" for m in re.finditer(r"[/%]", body)]
             for call in re.finditer(r"\b((?:\w+::)*\w+)\s*\(", body):
                 path = call[1]
-                if path in WORDS or path in BUILT_IN:
+                if path in WORDS:
                     continue
                 if NAMES_DIVISION.search(path):
                     wrong.append(f"{here(call.start())} calls `{path}`")
                     continue
                 try:
-                    callee = self.meant(name.rsplit("::", 1)[0], path)
+                    callees = self.called(name.rsplit("::", 1)[0], path, re.search(r"(?<!\.)\.$", body[: call.start()]))
                 except LookupError:
                     wrong.append(f"{here(call.start())} calls `{path}`, which is not found")
                     continue
-                if callee:
-                    calls[name].add(callee)
-                    left.append(callee)
+                calls[name] |= callees
+                left += callees
         return reached(calls, START), wrong
 
 
@@ -182,6 +204,10 @@ def instructions(text, comment):
 def check_machine(text, out, target, level):
     """The functions that the machine code reaches, and what is wrong; `solo_finish` is the one that can be called from outside."""
     text = re.sub(r"^target .*\n|\"target-cpu\"=\"[^\"]*\"", "", text, flags=re.M)
+    # A name that a listing cannot tell from what stands around it gets another.
+    odd = {name: f"odd.{i}" for i, name in enumerate(sorted(set(re.findall(r'@"([^"]+)"', text)))) if not re.fullmatch(r"[\w:.$]+", name)}
+    names = {plain: name for name, plain in odd.items()}
+    text = re.sub(r'([@$])"([^"]+)"', lambda m: f'{m[1]}"{odd.get(m[2], m[2])}"', text)
     text = re.sub(rf"^define internal (.*@\"{START}\")", r"define \1", text, flags=re.M)
     text = re.sub(r"^define (?!internal)(.*@main\()", r"define internal \1", text, flags=re.M)
     code, listing = out / "machine.ll", out / f"{target}{level}.s"
@@ -203,7 +229,7 @@ def check_machine(text, out, target, level):
                 wrong.append(f"{where}: {name} goes outside: `{line}`")
     if not lines.get(START):
         wrong.append(f"{where}: no code of {START}")
-    return found, wrong
+    return {names.get(name, name) for name in found}, wrong
 
 
 def check(tree, out):
@@ -212,8 +238,9 @@ def check(tree, out):
     text = module_of(tree, out)
     in_module, more = check_module(text)
     wrong += more
-    wrong += [f"source: {name}, which the module has, is not found" for name in sorted(in_module - in_source)]
-    wrong += [f"{kind}: {name} is not reached" for kind, found in (("source", in_source), ("module", in_module)) for name in sorted(KNOWN - found)]
+    of_source = {re.sub(r"::<.*", "", name) for name in in_module}
+    wrong += [f"source: {name}, which the module has, is not found" for name in sorted(of_source - in_source) if not MADE.fullmatch(name)]
+    wrong += [f"{kind}: {name} is not reached" for kind, found in (("source", in_source), ("module", of_source)) for name in sorted(KNOWN - found)]
     for target, level in BUILDS:
         found, more = check_machine(text, out, target, level)
         wrong += more

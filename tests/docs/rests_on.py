@@ -28,12 +28,12 @@ def public_calls(guarantees):
 
 
 def contract(source, name):
-    """The text of a source file, and in it a public call's parameters and clauses."""
+    """The text of a source file, and in it a public call's parameters and clauses; a call may be a method."""
     text = (TOP / source).read_text() if (TOP / source).exists() else ""
-    found = re.search(rf'^pub (?:extern "C" )?fn {name}(\(.*?)\n\{{', text, re.S | re.M)
-    if not found or "requires" in found[1] or "ensures" not in found[1]:
+    found = re.search(rf'^( *)pub (?:extern "C" )?fn {name}(\(.*?)\n\1\{{', text, re.S | re.M)
+    if not found or "requires" in found[2] or "ensures" not in found[2]:
         raise ValueError(f"`{name}` in {source} is no public function with an `ensures` and without a `requires`")
-    return text, found[1]
+    return text, found[2]
 
 
 def named_by(source, name):

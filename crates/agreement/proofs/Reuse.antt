@@ -18,7 +18,7 @@ use Rattle.register.specs.Register.{outranks, rmw_read, rmw_write, takes}
 use Rattle.register.specs.declared.Department.TheVariants.{Sails}
 use Rattle.requests.specs.Requests.{standing, at_quorum, waiting_below, still_yes, all_yes, read_verdict, write_verdict}
 use Rattle.commands.specs.Commands.{command_of, all_zero, spared}
-use Rattle.attempts.specs.Rows.{row_department, new_row, used_after, waits_at, better, best_of, revision_from, revision_of, issued}
+use Rattle.attempts.specs.Rows.{row_department, new_row, used_after, waits_at, better, higher, best_of, revision_from, revision_of, issued}
 use Rattle.runs.specs.Runs.{state_at}
 use Rattle.floor.specs.Floors.{box_at, station_at, department_at, highest_of, used_of, department_from, stations_told, new_floor_of}
 use Rattle.floor.specs.Sound.{stations_below, share_sound, sound_of}
@@ -50,7 +50,7 @@ record Computed : Type 0 where
   highest : highest_of (floor_at pair crowd 191) Sails ≡ 16001
 
 computed : Computed
-unfolding contest state_at count when◌then◌else◌ sizes_right departments_wrong not_departments not_department department_from stations_told new_floor_of step_of apply_of play_of sound_of share_sound stations_below row_department command_of all_zero spared begin_refusal serve_refusal deliver_refusal standing bit set_bit count_below ones ones_in at_quorum new_row next_row used_after free_in all_served still_served free_below better_in lower_in waits_at waiting_below outranks rmw_read rmw_write takes delivered_on better best_of revision_from revision_of issued still_yes all_yes read_verdict write_verdict
+unfolding contest state_at count when◌then◌else◌ sizes_right departments_wrong not_departments not_department department_from stations_told new_floor_of step_of apply_of play_of sound_of share_sound stations_below row_department command_of all_zero spared begin_refusal serve_refusal deliver_refusal standing bit set_bit count_below ones ones_in at_quorum new_row next_row used_after free_in all_served still_served free_below better_in lower_in waits_at waiting_below outranks rmw_read rmw_write takes delivered_on better higher best_of revision_from revision_of issued still_yes all_yes read_verdict write_verdict
 computed = record { size = refl; sizes = (refl, refl, refl, refl); used = refl; free = refl; idle = refl; answers = refl; highest = refl }
 
 pub used_up : ¬ (attempts_before (trace_of pair crowd) Sails (length crowd) < 64)

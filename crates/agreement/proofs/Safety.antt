@@ -1,4 +1,5 @@
 -- Demand 3 without the solo finish: agreement, validity, aborts, and what the floor shows.
+use Rattle.std.proofs.Common.{None, Option, Some}
 use Prim.Native.Nat.{ℕ, zero, suc, ◌<◌}
 use native.Mathlib.Decide.{dec_lt}
 use native.Mathlib.Omega.{arith}
@@ -14,8 +15,6 @@ use Rattle.floor.proofs.Outcomes.{decided_owner}
 use Rattle.floor.specs.Floors.{station_at, row_at, department_at, InUse}
 use Rattle.floor.specs.Step.{step_of}
 use Rattle.attempts.specs.Rows.{row_department}
-use Rattle.attempts.specs.declared.Decision.{Decision}
-use Rattle.attempts.specs.declared.Decision.TheVariants.{None, Revision}
 use Rattle.attempts.specs.declared.State.TheVariants.{Decided}
 use Rattle.attempts.specs.declared.Station.{Station}
 use Rattle.floor.specs.declared.Floor.{Floor}
@@ -35,9 +34,9 @@ use Rattle.floor.proofs.Reached.{New, lengths_at}
 use Rattle.agreement.proofs.Positions.{Serving, means_at, row_at_lem, safe}
 
 -- a station that has decided nothing shows none
-abbrev pub is_none : Decision → Bool
+abbrev pub is_none : Option Suit → Bool
 is_none None = true
-is_none (Revision v) = false
+is_none (Some v) = false
 
 module _ (f : Floor) (l : List (List ℕ)) where
   -- one number names one attempt
@@ -134,7 +133,7 @@ module _ (f : Floor) (l : List (List ℕ)) where
         let m = means_at f l new i (said.Decided v) e in
         ((row_at (floor_at f l i) m.attempt).station, decides_at i _ v m.attempt m.box m.answer.command m.answer.may.used refl e)
 
-    pub shown_decided : (s i : ℕ) (v : Suit) → shown_at f l s i ≡ Revision v → Before (DecidesAt (trace_of f l) s v) i
+    pub shown_decided : (s i : ℕ) (v : Suit) → shown_at f l s i ≡ Some v → Before (DecidesAt (trace_of f l) s v) i
     unfolding state_at step_of
     shown_decided s zero v h = clash (ap (λ (x : Station). is_none x.decided) (new.stations s)) (ap is_none h)
     shown_decided s (suc i) v h = elim (decided_from (floor_at f l i) (command_at l i) s) [
@@ -149,7 +148,7 @@ module _ (f : Floor) (l : List (List ℕ)) where
       pub row : ℕ
       pub used : InUse (floor_at f l i) row
       pub owner : (row_at (floor_at f l i) row).station ≡ s
-      pub settled : station_at (floor_at f l (suc i)) s ≡ record { department = department_at (floor_at f l i) s; state = Decided row; last = (station_at (floor_at f l i) s).last; decided = Revision v }
+      pub settled : station_at (floor_at f l (suc i)) s ≡ record { department = department_at (floor_at f l i) s; state = Decided row; last = (station_at (floor_at f l i) s).last; decided = Some v }
 
     pub decider_at : (s : ℕ) (v : Suit) (i : ℕ) → DecidesAt (trace_of f l) s v i → Decider s v i
     decider_at s v i d =
@@ -161,15 +160,15 @@ module _ (f : Floor) (l : List (List ℕ)) where
           row = m.attempt;
           used = m.answer.may.used;
           owner = q;
-          settled = subst (λ (j : ℕ). station_at (floor_at f l (suc i)) j ≡ record { department = department_at (floor_at f l i) j; state = Decided m.attempt; last = (station_at (floor_at f l i) j).last; decided = Revision v }) q
-              (decided_owner (lengths_at f l new i) m ∙ ap (λ (u : Suit). record { department = department_at (floor_at f l i) (row_at (floor_at f l i) m.attempt).station; state = Decided m.attempt; last = (station_at (floor_at f l i) (row_at (floor_at f l i) m.attempt).station).last; decided = Revision u }) (sym m.written));
+          settled = subst (λ (j : ℕ). station_at (floor_at f l (suc i)) j ≡ record { department = department_at (floor_at f l i) j; state = Decided m.attempt; last = (station_at (floor_at f l i) j).last; decided = Some v }) q
+              (decided_owner (lengths_at f l new i) m ∙ ap (λ (u : Suit). record { department = department_at (floor_at f l i) (row_at (floor_at f l i) m.attempt).station; state = Decided m.attempt; last = (station_at (floor_at f l i) (row_at (floor_at f l i) m.attempt).station).last; decided = Some u }) (sym m.written));
         }
 
     -- a station that decided shows a revision at once, and from then on
-    shown_now : (s : ℕ) (v : Suit) (i : ℕ) → DecidesAt (trace_of f l) s v i → shown_at f l s (suc i) ≡ Revision v
+    shown_now : (s : ℕ) (v : Suit) (i : ℕ) → DecidesAt (trace_of f l) s v i → shown_at f l s (suc i) ≡ Some v
     shown_now s v i d = ap (λ (x : Station). x.decided) (decider_at s v i d).settled
 
-    pub shown_still : (s : ℕ) (v : Suit) (k i : ℕ) → DecidesAt (trace_of f l) s v k → k < i → (u : Suit) × (shown_at f l s i ≡ Revision u)
+    pub shown_still : (s : ℕ) (v : Suit) (k i : ℕ) → DecidesAt (trace_of f l) s v k → k < i → (u : Suit) × (shown_at f l s i ≡ Some u)
     unfolding state_at step_of
     shown_still s v k zero d h = absurd (omega arith)
     shown_still s v k (suc i) d h = elim (up_to h) [

@@ -1,4 +1,5 @@
 -- In which attempt a station is, and that it is idle, read off the list.
+use Rattle.std.proofs.Common.{Some}
 use Prim.Native.Nat.{ℕ, zero, suc, ◌<◌}
 use native.Mathlib.Omega.{arith}
 use mathlib.Core.Path.{◌≡◌, refl, sym, ap, ◌∙◌}
@@ -11,7 +12,6 @@ use Rattle.runs.specs.Runs.{state_at}
 use Rattle.floor.specs.Floors.{station_at, row_at, InUse}
 use Rattle.attempts.specs.Stations.{is_gone, is_active}
 use Rattle.commands.specs.declared.Command.{Command}
-use Rattle.attempts.specs.declared.Decision.TheVariants.{Revision}
 use Rattle.floor.specs.Moves.{StationMove, station_kept, station_begins, station_issues, station_decides, station_aborts, station_leaves}
 use Rattle.floor.specs.Step.{step_of}
 use Rattle.attempts.specs.declared.State.{State}
@@ -35,8 +35,8 @@ use Rattle.floor.proofs.Reached.{lengths_at, New}
 use Rattle.agreement.proofs.Safety.{shown_decided}
 
 -- a station that decided shows a revision, where it did before
-decided_moves : {f : Floor} {c : Command} {j : ℕ} {o : Outcome} {x : Station} → StationMove f c j o x → ((a : ℕ) → (station_at f j).state ≡ Decided a → (u : Suit) × ((station_at f j).decided ≡ Revision u))
-    → (a : ℕ) → x.state ≡ Decided a → (u : Suit) × (x.decided ≡ Revision u)
+decided_moves : {f : Floor} {c : Command} {j : ℕ} {o : Outcome} {x : Station} → StationMove f c j o x → ((a : ℕ) → (station_at f j).state ≡ Decided a → (u : Suit) × ((station_at f j).decided ≡ Some u))
+    → (a : ℕ) → x.state ≡ Decided a → (u : Suit) × (x.decided ≡ Some u)
 decided_moves station_kept h a e = h a e
 decided_moves (station_begins c g b l) h a e = absurd (let k : ◌≡◌ {A = ℕ} 0 1 = cc in omega arith)
 decided_moves (station_issues c u w r) h a e = absurd (let k : ◌≡◌ {A = ℕ} 0 1 = cc in omega arith)
@@ -56,7 +56,7 @@ module _ (f : Floor) (l : List (List ℕ)) (new : New f) where
       go (Decided x) q e = clash e refl
       go Gone q e = clash e refl
 
-  decided_shows : (j i a : ℕ) → (station_at (floor_at f l i) j).state ≡ Decided a → (u : Suit) × ((station_at (floor_at f l i) j).decided ≡ Revision u)
+  decided_shows : (j i a : ℕ) → (station_at (floor_at f l i) j).state ≡ Decided a → (u : Suit) × ((station_at (floor_at f l i) j).decided ≡ Some u)
   unfolding state_at step_of
   decided_shows j zero a e = absurd (let q : Idle ≡ Decided a = ap (λ (x : Station). x.state) (sym (new.stations j)) ∙ e in let k : ◌≡◌ {A = ℕ} 0 1 = cc in omega arith)
   decided_shows j (suc i) a e = decided_moves (apply_station (floor_at f l i) (command_at l i) j) (decided_shows j i) a e

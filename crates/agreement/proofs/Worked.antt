@@ -1,4 +1,5 @@
 -- Document 01's examples I and J, and lists of the wishes of document 02, in the words of demand 3, so that the claim is not about nothing.
+use Rattle.std.proofs.Common.{None, Some}
 use Prim.Native.Nat.{ℕ, zero, suc, ◌<◌, ◌+◌, ◌*◌}
 use native.Mathlib.Omega.{arith}
 use mathlib.Core.Path.{◌≡◌, refl, sym, ap, ◌∙◌, subst}
@@ -14,6 +15,7 @@ use Rattle.suits.specs.Suits.{FourBytes}
 use Rattle.suits.specs.declared.Suit.{Suit}
 use Rattle.base.specs.Choice.{when◌then◌else◌}
 use Rattle.base.specs.Numbers.{sizes_right, quorum}
+use Rattle.base.specs.Refusals.{named}
 use Rattle.base.specs.Mask.{bit, set_bit, count_below}
 use Rattle.base.specs.Quorum.{count}
 use Rattle.base.proofs.Cases.{clash, by_cases, up_to}
@@ -26,14 +28,13 @@ use Rattle.register.specs.declared.Department.TheVariants.{Sails, Canvas}
 use Rattle.runs.specs.Runs.{state_at}
 use Rattle.floor.specs.Sound.{stations_below, share_sound, sound_of}
 use Rattle.floor.specs.Floors.{box_at, department_at, used_of, InUse, department_from, stations_told, new_floor_of}
-use Rattle.attempts.specs.declared.Decision.TheVariants.{None, Revision}
 use Rattle.floor.specs.declared.Floor.{Floor}
 use Rattle.attempts.proofs.RowDepartments.{sails_row}
 use Rattle.floor.proofs.UseLaws.{of_use}
 use Rattle.floor.proofs.AwayLaws.{is_move}
 use Rattle.commands.specs.Commands.{all_zero, spared, command_of}
 use Rattle.floor.specs.Free.{still_served, all_served, free_in, is_free, next_row}
-use Rattle.attempts.specs.Rows.{row_department, new_row, waits_at, used_after, better, best_of, revision_from, revision_of, issued}
+use Rattle.attempts.specs.Rows.{row_department, new_row, waits_at, used_after, better, higher, best_of, revision_from, revision_of, issued}
 use Rattle.floor.specs.Refusals.{begin_refusal, serve_refusal, deliver_refusal, stop_refusal, return_refusal}
 use Rattle.floor.specs.Effects.{delivered_on}
 use Rattle.floor.specs.Step.{play_of, apply_of, step_of}
@@ -87,9 +88,9 @@ as_expected (suc k) = when eqb (noted (said_at three example_i k)) (expected k) 
 record Computed : Type 0 where
   decided : said_at three example_i 13 ≡ said.Decided (suits.single 9)
   aborted : said_at three example_i 17 ≡ said.Aborted 0
-  malformed : said_at three example_i 19 ≡ said.Refused 7
-  over : said_at three example_i 20 ≡ said.Refused 10
-  shown : shown_at three example_i 1 (length example_i) ≡ Revision (suits.single 9)
+  malformed : said_at three example_i 19 ≡ said.Refused (named 7)
+  over : said_at three example_i 20 ≡ said.Refused (named 10)
+  shown : shown_at three example_i 1 (length example_i) ≡ Some (suits.single 9)
   none : shown_at three example_i 0 (length example_i) ≡ None
   attempts : attempts_before (trace_of three example_i) Sails (length example_i) ≡ 2
   -- the read of attempt 1 is served at box 1
@@ -109,17 +110,17 @@ record Computed : Type 0 where
   second_decided : said_at two both 9 ≡ said.Decided (suits.single 9)
   both_held : (held_for Sails ≡ suits.single 7) × (held_for Canvas ≡ suits.single 9)
   undecided : shown_at pair withdrawn 0 4 ≡ None
-  withdrawn_decided : (said_at pair withdrawn 4 ≡ said.Decided (suits.single 0)) × (shown_at pair withdrawn 0 5 ≡ Revision (suits.single 0))
+  withdrawn_decided : (said_at pair withdrawn 4 ≡ said.Decided (suits.single 0)) × (shown_at pair withdrawn 0 5 ≡ Some (suits.single 0))
   withdrawn_again : (said_at pair withdrawn 7 ≡ said.WriteIssued (suits.single 0)) × (said_at pair withdrawn 9 ≡ said.Decided (suits.single 0))
-  withdrawn_over : said_at pair withdrawn 10 ≡ said.Refused 10
+  withdrawn_over : said_at pair withdrawn 10 ≡ said.Refused (named 10)
   begun_none : attempts_before (trace_of five stops) Sails 2 ≡ 0
   put : said_at three came_back 3 ≡ said.Stopped 1
-  waited : said_at three came_back 4 ≡ said.Refused 13
+  waited : said_at three came_back 4 ≡ said.Refused (named 13)
   still_away : (box_at (floor_at three came_back 5) 1).away ≡ true
   brought : said_at three came_back 5 ≡ said.Back 1
   served_then : (said_at three came_back 6 ≡ said.Served 0) × ((box_at (floor_at three came_back 6) 1).away ≡ false)
   issued_then : said_at three came_back 7 ≡ said.WriteIssued (suits.single 7)
-  refused_then : said_at three came_back 8 ≡ said.Refused 23
+  refused_then : said_at three came_back 8 ≡ said.Refused (named 23)
   moved : (is_move (said_at five one_back 0) ≡ true) × (is_move (said_at five one_back 1) ≡ true) × (is_move (said_at five one_back 2) ≡ true) × (is_move (said_at five one_back 3) ≡ true)
   enough_back : count answering_back 5 ≡ 3
   none_begun : attempts_before (trace_of five one_back) Sails 4 ≡ 0
@@ -131,7 +132,7 @@ record Computed : Type 0 where
   all : (three.n ≡ 3) × (three.m ≡ 2) × (count (λ b. true) 3 ≡ 3)
 
 computed : Computed
-unfolding state_at count as_expected expected when◌then◌else◌ sizes_right departments_wrong not_departments not_department department_from stations_told new_floor_of step_of apply_of play_of sound_of share_sound stations_below row_department command_of all_zero spared begin_refusal serve_refusal deliver_refusal stop_refusal return_refusal standing bit set_bit count_below ones ones_in at_quorum new_row next_row used_after free_in all_served still_served waits_at waiting_below outranks rmw_read rmw_write takes delivered_on better best_of revision_from revision_of issued still_yes all_yes read_verdict write_verdict
+unfolding state_at count as_expected expected when◌then◌else◌ sizes_right departments_wrong not_departments not_department department_from stations_told new_floor_of step_of apply_of play_of sound_of share_sound stations_below row_department command_of all_zero spared begin_refusal serve_refusal deliver_refusal stop_refusal return_refusal standing bit set_bit count_below ones ones_in at_quorum new_row next_row used_after free_in all_served still_served waits_at waiting_below outranks rmw_read rmw_write takes delivered_on better higher best_of revision_from revision_of issued still_yes all_yes read_verdict write_verdict
 computed = record {
   decided = refl;
   aborted = refl;
@@ -236,7 +237,7 @@ away_from = record {
   put = computed.put;
   later = omega arith;
   back = computed.brought;
-  between = λ k h u e. let q : k ≡ 4 = omega arith in let r : said.Refused 13 ≡ said.Back 1 = sym computed.waited ∙ ap (said_at three came_back) (sym q) ∙ e in let z : ◌≡◌ {A = ℕ} 0 1 = cc in omega arith;
+  between = λ k h u e. let q : k ≡ 4 = omega arith in let r : said.Refused (named 13) ≡ said.Back 1 = sym computed.waited ∙ ap (said_at three came_back) (sym q) ∙ e in let z : ◌≡◌ {A = ℕ} 0 1 = cc in omega arith;
 }
 
 -- every step of `one_back` moves a box, and nothing else was said

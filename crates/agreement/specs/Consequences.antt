@@ -1,10 +1,10 @@
 -- What a reader of the floor may rely on besides. The proof is `consequences` in proofs/Consequences.
-use Rattle.std.specs.Prelude.{ℕ, ◌<◌, ◌≡◌, ◌⊎◌, false, List, length}
+use Rattle.std.specs.Prelude.{ℕ, ◌<◌, ◌≡◌, ◌⊎◌, false, List, length, Some}
+use Rattle.base.specs.Refusals.{named}
 use Rattle.suits.specs.declared.Suit.{Suit}
 use Rattle.commands.specs.Outcomes.{is_refused}
 use Rattle.commands.specs.declared.Command.TheVariants.{Begin}
 use Rattle.commands.specs.declared.Outcome.TheVariants as said
-use Rattle.attempts.specs.declared.Decision.TheVariants.{Revision}
 use Rattle.attempts.specs.declared.State.TheVariants.{Idle}
 use Rattle.floor.specs.Runs.{command_at}
 use Rattle.agreement.specs.Words.{DecidesAt, Answering, IdleAt}
@@ -20,10 +20,10 @@ pub record Consequences (f : Floor) (l : List (List ℕ)) : Type 0 where
   -- what is decided is decided by a station
   pub station : (i : ℕ) (v : Suit) → said_at f l i ≡ said.Decided v → (s : ℕ) × (s < f.m) × DecidesAt (trace_of f l) s v i
   -- what a station decided, 0 too, the floor shows from then on
-  pub stays : (s : ℕ) (v : Suit) (k i : ℕ) → DecidesAt (trace_of f l) s v k → k < i → shown_at f l s i ≡ Revision v
+  pub stays : (s : ℕ) (v : Suit) (k i : ℕ) → DecidesAt (trace_of f l) s v k → k < i → shown_at f l s i ≡ Some v
   -- "each station keeps its own, and begins nothing after deciding", whatever it decided: such a begin is refused with 9 or 10
   pub over : (s : ℕ) (v : Suit) (k i round : ℕ) (u : Suit) → DecidesAt (trace_of f l) s v k → k < i → command_at l i ≡ Begin s round u
-      → (said_at f l i ≡ said.Refused 9) ⊎ (said_at f l i ≡ said.Refused 10)
+      → (said_at f l i ≡ said.Refused (named 9)) ⊎ (said_at f l i ≡ said.Refused (named 10))
   -- a box answers in the words of demand 3 exactly where the floor shows that it is not away
   pub not_away : (b i : ℕ) → Answering (trace_of f l) i b → (box_at (floor_at f l i) b).away ≡ false
   pub answers : (b i : ℕ) → (box_at (floor_at f l i) b).away ≡ false → Answering (trace_of f l) i b

@@ -1,13 +1,12 @@
 -- Demand 3: one claim on every list of steps, whoever orders them, whichever boxes go away and come back and whichever stations go. The
 -- proof is `demand3` in proofs/Demand.
-use Rattle.std.specs.Prelude.{ℕ, ◌+◌, ◌*◌, ◌<◌, ◌≡◌, List, ◌++◌, length}
+use Rattle.std.specs.Prelude.{ℕ, ◌+◌, ◌*◌, ◌<◌, ◌≡◌, List, ◌++◌, length, Option}
 use Rattle.suits.specs.Suits.{FourBytes}
 use Rattle.suits.specs.declared.Suit.{Suit}
 use Rattle.base.specs.Numbers.{quorum}
 use Rattle.base.specs.Quorum.{AtLeast}
 use Rattle.register.specs.declared.Department.{Department}
 use Rattle.attempts.specs.Rows.{row_department}
-use Rattle.attempts.specs.declared.Decision.{Decision}
 use Rattle.floor.specs.Floors.{station_at, department_at, first_floor}
 use Rattle.floor.specs.declared.Floor.{Floor}
 use Rattle.commands.specs.declared.Outcome.TheVariants as said
@@ -25,7 +24,7 @@ module _ (f : Floor) (l : List (List ℕ)) where
 
   -- the decided revision that the floor before the step at i shows for the station s, or that there is none. Wish 7 of document 02: "A
   -- station keeps whether it decided", so that revision 0 is not none.
-  abbrev pub shown_at : (s i : ℕ) → Decision
+  abbrev pub shown_at : (s i : ℕ) → Option Suit
   shown_at s i = (station_at (floor_at f l i) s).decided
 
 -- What holds within the department d of every list, whatever its steps are (safety).

@@ -1,7 +1,7 @@
 -- The words of demand 3, and those of wishes 5, 6 and 8 of document 02 that its premises use. Document 01, "The list of demand 3": "Its words are
 -- read off the records and off what accepted steps said". They speak of a trace and of no floor, so that each floor's claim can use them. A
 -- step is named by its position in the list, from 0, and earlier is `<`.
-use Rattle.std.specs.Prelude.{ℕ, ◌≤◌, ◌<◌, ◌+◌, suc, ◌≡◌, Bool, false}
+use Rattle.std.specs.Prelude.{ℕ, ◌≤◌, ◌<◌, ◌+◌, suc, ◌≡◌, Bool, false, None, Option, Some}
 use Rattle.suits.specs.declared.Suit.{Suit}
 use Rattle.base.specs.Positions.{Before}
 use Rattle.base.specs.Numbers.{rank_of}
@@ -9,8 +9,6 @@ use Rattle.base.specs.Quorum.{count}
 use Rattle.register.specs.Register.{is_of}
 use Rattle.register.specs.declared.Department.{Department}
 use Rattle.attempts.specs.Rows.{row_department}
-use Rattle.attempts.specs.declared.Decision.{Decision}
-use Rattle.attempts.specs.declared.Decision.TheVariants.{None, Revision}
 use Rattle.requests.specs.declared.Phase.{Phase}
 use Rattle.requests.specs.declared.Phase.TheVariants.{Read, Write}
 use Rattle.commands.specs.Outcomes.{is_refused}
@@ -136,8 +134,8 @@ module _ (t : Trace) where
 
   -- "The decided revision that the floor shows for a station is the one so said, and none only where none was said." The floor before the step at
   -- i shows x for the station s.
-  pub record ShownAt (x : Decision) (s i : ℕ) : Type 0 where
-    pub decided : (v : Suit) → x ≡ Revision v → Before (DecidesAt s v) i
+  pub record ShownAt (x : Option Suit) (s i : ℕ) : Type 0 where
+    pub decided : (v : Suit) → x ≡ Some v → Before (DecidesAt s v) i
     pub none : x ≡ None → (v : Suit) → ¬ Before (DecidesAt s v) i
 
   -- What a solo finish is given, before the step at i. The accepted step at k put the box b away, and it is the last before i that did.

@@ -14,7 +14,7 @@ use Rattle.attempts.specs.Rows.{requests_of, row_served, register_served, row_he
 use Rattle.attempts.specs.Claims.{OtherKept, WriteIssued, AttemptClaims}
 use Rattle.suits.specs.declared.Suit.{Suit}
 use Rattle.attempts.specs.declared.Row.{Row}
-use Rattle.attempts.proofs.Answers.{best_found, best_at_quorum, revision_either}
+use Rattle.attempts.proofs.AnswerLaws.{best_found, best_at_quorum, revision_either}
 use Rattle.attempts.proofs.WaitingLaws.{new_row_waits, issued_waits}
 use Rattle.attempts.proofs.StationTests.{is_active_lem, active_holds, is_gone_lem, is_busy_lem}
 

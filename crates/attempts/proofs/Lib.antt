@@ -1,4 +1,4 @@
-pub mod Answers
+pub mod AnswerLaws
 pub mod RowDepartments
 pub mod Past
 pub mod StationTests

@@ -22,10 +22,6 @@ pub row_own : (d : Department) (k : ℕ) → k < 64 → row_department (first_ro
 row_own Sails k h = sails_row (0 + k) (omega arith)
 row_own Canvas k h = canvas_row (64 + k) (omega arith)
 
-pub first_own : (d : Department) → row_department (first_row d) ≡ d
-first_own Sails = sails_row 0 (omega arith)
-first_own Canvas = canvas_row 64 (omega arith)
-
 -- it is not below the first, and the last is below 128
 pub first_most : (d : Department) → first_row d ≤ 64
 first_most Sails = omega arith

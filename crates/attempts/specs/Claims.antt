@@ -1,29 +1,28 @@
 -- What is claimed of a row: the choice among the answers to its reads, where its requests stand, and what a serve and a delivery leave of it;
 -- and in which attempt a station is. The proof is `attempt_claims` in proofs/Claims.
-use Rattle.std.specs.Prelude.{ℕ, ◌≤◌, ◌<◌, ◌≡◌, ◌⊎◌, true, false, List, get_or}
+use Rattle.std.specs.Prelude.{ℕ, ◌≤◌, ◌<◌, ◌≡◌, ◌⊎◌, true, false, List, get_or, Option, Some, None}
 use Rattle.requests.specs.Requests.{heard_from, standing_of, is_waiting, at_quorum, served_at, received_from}
 use Rattle.requests.specs.declared.Phase.{Phase}
 use Rattle.requests.specs.declared.Phase.TheVariants.{Read, Write}
 use Rattle.requests.specs.declared.Requests.{Requests}
-use Rattle.register.specs.Register.{is_held, rmw_read, takes}
+use Rattle.register.specs.Register.{answer0, is_held, rank_in, value_in, rmw_read, takes}
+use Rattle.register.specs.declared.Answer.{Answer}
 use Rattle.register.specs.declared.Register.{Register}
 use Rattle.suits.specs.declared.Suit.{Suit}
-use Rattle.attempts.specs.Rows.{answer0, unused_row, requests_of, new_row, row_served, register_served, row_heard, no_best, best_from, best_of, revision_from, issued}
+use Rattle.attempts.specs.Rows.{unused_row, requests_of, new_row, row_served, register_served, row_heard, best_of, revision_from, issued}
 use Rattle.attempts.specs.Stations.{is_gone, is_busy, is_active}
-use Rattle.attempts.specs.declared.rows.Best.{Best}
-use Rattle.attempts.specs.declared.Answer.{Answer}
 use Rattle.attempts.specs.declared.Row.{Row}
 use Rattle.attempts.specs.declared.State.{State}
 use Rattle.attempts.specs.declared.State.TheVariants.{Reading, Writing, Decided, Gone}
 
 -- The best answer among the first k boxes of a mask: there is none, or it is the slot of a box b in the mask; no box in it has a
 -- higher rank, and of equal rank none has a lower number.
-pub data Found (l : List Answer) (m : Requests) (k : ℕ) : Best → Type 0 where
-  nothing : ((c : ℕ) → c < k → heard_from m c ≡ false) → Found l m k no_best
+pub data Found (l : List Answer) (m : Requests) (k : ℕ) : Option Answer → Type 0 where
+  nothing : ((c : ℕ) → c < k → heard_from m c ≡ false) → Found l m k None
   highest : {b : ℕ} → b < k → heard_from m b ≡ true
       → ((c : ℕ) → c < k → heard_from m c ≡ true → (get_or l c answer0).rank ≤ (get_or l b answer0).rank)
       → ((c : ℕ) → c < b → heard_from m c ≡ true → (get_or l c answer0).rank < (get_or l b answer0).rank)
-      → Found l m k (best_from (get_or l b answer0))
+      → Found l m k (Some (get_or l b answer0))
 
 -- What a step in the phase p of the row w keeps: whose attempt it is, what it offers and writes, and the other phase.
 pub record OtherKept (p : Phase) (w z : Row) : Type 0 where
@@ -56,10 +55,10 @@ pub data InAttempt (a : ℕ) : State → Type 0 where
 pub record AttemptClaims : Type 0 where
   -- "the answer with the highest write rank among the q, of equals the lowest-numbered box's"; at the q-th answer there is one
   pub best : (l : List Answer) (m : Requests) (k : ℕ) → Found l m k (best_of l m k)
-  pub some : (l : List Answer) (m : Requests) (n : ℕ) → at_quorum m n ≡ true → (best_of l m n).found ≡ true
+  pub some : (l : List Answer) (m : Requests) (n : ℕ) → at_quorum m n ≡ true → is_held (best_of l m n) ≡ true
   -- "If that answer holds nothing, it writes its own offer, otherwise that answer's value", whatever these are. Wish 7 of document 02: it
   -- "holds nothing exactly while its write rank is 0"
-  pub revision : (x : Best) (offer : Suit) → ((x.rank ≡ 0) × (revision_from x offer ≡ offer)) ⊎ ((0 < x.rank) × (revision_from x offer ≡ x.value))
+  pub revision : (x : Option Answer) (offer : Suit) → ((rank_in x ≡ 0) × (revision_from x offer ≡ offer)) ⊎ ((0 < rank_in x) × (revision_from x offer ≡ value_in x))
   -- "a read request waiting at every box"; "The write .. waits at every box"
   pub reads_wait : (n s round b : ℕ) (v : Suit) → n ≤ 9 → b < n → is_waiting (standing_of (new_row n s round v).read b) ≡ true
   pub writes_wait : (w : Row) (v : Suit) (n b : ℕ) → n ≤ 9 → b < n → is_waiting (standing_of (issued w v n).write b) ≡ true

@@ -1,10 +1,12 @@
 -- The row of an attempt: Figure 4's gathering of answers, and the choice of Figure 1.
-use Rattle.std.specs.Prelude.{ℕ, zero, suc, ◌+◌, List, [], Bool, true, false, get_or, set, replicate, ltb}
+use Rattle.std.specs.Prelude.{ℕ, zero, suc, ◌+◌, List, [], Bool, true, get_or, set, replicate, ltb, Option, Some, None, unwrap_or}
 use Rattle.base.specs.Choice.{when◌then◌else◌}
 use Rattle.base.specs.Numbers.{rank_of}
 use Rattle.suits.specs.Suits.{suit0}
 use Rattle.suits.specs.declared.Suit.{Suit}
+pub use Rattle.register.specs.Register.{answer0}
 use Rattle.register.specs.Register.{of_department, is_held, rank_in, value_in, holds_nothing, rmw_read, rmw_write}
+use Rattle.register.specs.declared.Answer.{Answer}
 use Rattle.register.specs.declared.Department.{Department}
 use Rattle.register.specs.declared.Department.TheVariants.{Sails, Canvas}
 use Rattle.register.specs.declared.Register.{Register}
@@ -12,14 +14,9 @@ use Rattle.register.specs.declared.ReadDone.{ReadDone}
 use Rattle.requests.specs.Requests.{of_phase, requests0, none_issued, heard_from, standing_of, is_waiting, issued_to, served_at, received_from}
 use Rattle.requests.specs.declared.Phase.{Phase}
 use Rattle.requests.specs.declared.Requests.{Requests}
-use Rattle.attempts.specs.declared.rows.Best.{Best}
-use Rattle.attempts.specs.declared.Answer.{Answer}
 use Rattle.attempts.specs.declared.Row.{Row}
 
 -- What a read past the end of an array gives by the language's own rule: 0, an array of no elements.
-abbrev pub answer0 : Answer
-answer0 = record { rank = 0; value = suit0 }
-
 abbrev pub row0 : Row
 row0 = record { station = 0; rank = 0; offer = suit0; written = suit0; read = requests0; answers = []; write = requests0 }
 
@@ -67,7 +64,7 @@ new_row n station round revision =
 
 -- what a read was answered, in numbers: 0 and 0 where it is outranked
 abbrev pub answer_of : (done : ReadDone) → Answer
-answer_of done = record { rank = rank_in done.answer; value = value_in done.answer }
+answer_of done = unwrap_or done.answer answer0
 
 -- "the routine runs and its answer is on the way": the row w once the box with this register has served its read or its write. What a
 -- read was answered is kept with the row, and that it is outranked as a no.
@@ -94,28 +91,26 @@ requests_heard phase w box = received_from (requests_of phase w) box
 abbrev pub row_heard : (phase : Phase) (w : Row) (box : ℕ) → Row
 row_heard phase w box = with_requests phase w (requests_heard phase w box)
 
--- The best answer found so far, or that none was found.
-abbrev pub no_best : Best
-no_best = record { found = false; rank = 0; value = suit0 }
+-- The better of two answers: a higher write rank is better, of equals the one found before stays.
+unfoldable pub higher : (x answer : Answer) → Answer
+higher x answer = when ltb x.rank answer.rank then answer else x
 
-abbrev pub best_from : (answer : Answer) → Best
-best_from answer = record { found = true; rank = answer.rank; value = answer.value }
+-- the best answer found so far, if any was, and one more answer, if that was received
+abbrev pub best_with : (x : Option Answer) (answer : Answer) → Answer
+best_with None answer = answer
+best_with (Some x) answer = higher x answer
 
--- one more answer, if it was received: a higher write rank is better, of equals the one found before stays
-unfoldable pub better : (x : Best) (received : Bool) (answer : Answer) → Best
-better x received answer =
-    when received then
-    (when x.found then (when ltb x.rank answer.rank then best_from answer else x) else best_from answer)
-    else x
+unfoldable pub better : (x : Option Answer) (received : Bool) (answer : Answer) → Option Answer
+better x received answer = when received then Some (best_with x answer) else x
 
 -- "the answer with the highest write rank among the q, of equals the lowest-numbered box's", among the first k boxes heard
-unfoldable pub best_of : (answers : List Answer) (q : Requests) (k : ℕ) → Best
-best_of answers q zero = no_best
+unfoldable pub best_of : (answers : List Answer) (q : Requests) (k : ℕ) → Option Answer
+best_of answers q zero = None
 best_of answers q (suc k) = better (best_of answers q k) (heard_from q k) (get_or answers k answer0)
 
 -- "If that answer holds nothing, it writes its own offer, otherwise that answer's value", which may be revision 0 (wish 7).
-unfoldable pub revision_from : (x : Best) (offer : Suit) → Suit
-revision_from x offer = when holds_nothing x.rank then offer else x.value
+unfoldable pub revision_from : (x : Option Answer) (offer : Suit) → Suit
+revision_from x offer = when holds_nothing (rank_in x) then offer else value_in x
 
 unfoldable pub revision_of : (w : Row) (n : ℕ) → Suit
 revision_of w n = revision_from (best_of w.answers w.read n) w.offer

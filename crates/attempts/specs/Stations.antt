@@ -1,11 +1,10 @@
 -- Document 01, "The floor": a station, and the tests of its state.
-use Rattle.std.specs.Prelude.{ℕ, Bool, true, false, eqb}
+use Rattle.std.specs.Prelude.{ℕ, Bool, true, false, eqb, None}
 use Rattle.requests.specs.Requests.{of_phase}
 use Rattle.requests.specs.declared.Phase.{Phase}
 use Rattle.register.specs.declared.Department.TheVariants.{Sails}
 use Rattle.attempts.specs.declared.State.{State}
 use Rattle.attempts.specs.declared.State.TheVariants.{Idle, Reading, Writing, Decided, Gone}
-use Rattle.attempts.specs.declared.Decision.TheVariants.{None}
 use Rattle.attempts.specs.declared.Station.{Station}
 
 -- "On a new floor places not in use are 0, idle, not issued." Wish 7 of document 02: "A station keeps whether it decided", which it has not.

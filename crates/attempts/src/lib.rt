@@ -1,7 +1,7 @@
 // An attempt: its row, with what its two phases were answered, and the station that is in it.
 #![tactic(auto)]
 
-use register::{Department, Register};
+use register::{Answer, Department, Register};
 use requests::Requests;
 use suits::Suit;
 
@@ -24,30 +24,19 @@ pub enum State {
     Gone,
 }
 
-// Whether a station decided, and which revision. Revision 0, "do not cut", is one like any other.
-#[derive(Clone, Copy)]
-pub enum Decision {
-    None,
-    Revision(Suit),
-}
-
-// A station: the paper's client, of one department. Its last round and what it decided survive its going.
+// A station: the paper's client, of one department. Its last round and what it decided survive its going. Revision 0, "do not cut", is
+// decided like any other.
 #[derive(Clone, Copy)]
 pub struct Station {
     pub department: Department,
     pub state: State,
     pub last: u16,
-    pub decided: Decision,
+    pub decided: Option<Suit>,
 }
 
-// What a box answered to a read: its write rank and value, 0 and 0 where the read was outranked.
-#[derive(Clone, Copy)]
-pub struct Answer {
-    pub rank: u32,
-    pub value: Suit,
-}
-
-// The row of an attempt (the paper's invocation of decide with one rank): its two phases, and what its reads were answered.
+// The row of an attempt (the paper's invocation of decide with one rank): its two phases, and what its reads were answered, 0 and 0 where
+// one was outranked. The answers stand beside the slots of `read`, not in them: `Requests` is the same for reads and for writes, and
+// `row_served`, and `row_of` of crate `panel`, read them there.
 #[derive(Clone, Copy)]
 pub struct Row {
     pub station: u8,

@@ -1,30 +1,30 @@
 // The row of an attempt: its two phases, the choice among the answers to its reads, and what a box's routine makes of it.
-ghost use Rattle.std.specs.Prelude.{◌≡◌, ◌≤◌};
+ghost use Rattle.std.specs.Prelude.{◌≡◌, min};
 ghost use Rattle.requests.specs.declared.Phase.TheVariants.{Read, Write};
 ghost use Rattle.requests.specs.Requests.{standing_of, is_waiting, is_on_the_way};
-ghost use Rattle.attempts.specs.Rows.{unused_row, row_department, first_row, requests_of, new_row, better, best_of, revision_of, waits_at, used_after, issued, row_served, register_served, with_requests};
+ghost use Rattle.attempts.specs.Rows.{unused_row, row_department, first_row, requests_of, new_row, better, best_of, revision_from, revision_of, waits_at, used_after, issued, row_served, register_served, with_requests};
 
-use crate::{Answer, Row, Served};
-use register::{Department, Register};
+use crate::{Row, Served};
+use register::{Answer, Department, Register};
 use requests::{Phase, Requests};
 use suits::Suit;
 
-// The best of the answers looked at so far, if there was one.
-#[derive(Clone, Copy)]
-pub struct Best {
-    pub found: bool,
-    pub rank: u32,
-    pub value: Suit,
-}
+// What is kept of a read that is not answered, or is outranked.
+const NO_ANSWER: Answer = Answer {
+    rank: 0,
+    value: Suit { r0: 0 },
+};
 
 // The department that owns the row a.
+#[tactic(auto, using(base::proofs::Tests::picks), unfolding(crate::specs::Rows::row_department))]
 pub fn department_of(a: u8) -> Department
     ensures { result ≡ row_department a }
 {
     if a < 64 {
-        return Department::Sails;
+        Department::Sails
+    } else {
+        Department::Canvas
     }
-    Department::Canvas
 }
 
 // The first row of the department.
@@ -41,26 +41,19 @@ pub fn first_row(d: Department) -> u8
 pub fn unused() -> Row
     ensures { result ≡ unused_row }
 {
-    let blank = suits::none();
-    let none = Answer {
-        rank: 0,
-        value: blank,
-    };
-    let answers = [none; 9];
-    let read = requests::none_issued();
-    let write = requests::none_issued();
     Row {
         station: 0,
         rank: 0,
-        offer: blank,
-        written: blank,
-        read,
-        answers,
-        write,
+        offer: suits::none(),
+        written: suits::none(),
+        read: requests::none_issued(),
+        answers: [NO_ANSWER; 9],
+        write: requests::none_issued(),
     }
 }
 
-// One phase of the attempt.
+// One phase of the attempt. The two are fields by name in every definition of a row, and these two functions alone choose between them: a
+// struct by phase, as ByDepartment is by department, would be no plainer.
 pub fn requests_of(w: Row, p: Phase) -> Requests
     ensures { result ≡ requests_of p w }
 {
@@ -71,25 +64,16 @@ pub fn requests_of(w: Row, p: Phase) -> Requests
 }
 
 // The row of an attempt that begins.
+#[tactic(auto, unfolding(crate::specs::Rows::new_row))]
 pub fn new_row(n: u8, s: u8, round: u16, v: Suit) -> Row
     ensures { result ≡ new_row n s round v }
 {
-    let blank = suits::none();
-    let none = Answer {
-        rank: 0,
-        value: blank,
-    };
-    let answers = [none; 9];
-    let read = requests::issued(n);
-    let write = requests::none_issued();
     Row {
         station: s,
-        rank: (round as u32) * 16 + (s as u32),
+        rank: round as u32 * 16 + s as u32,
         offer: v,
-        written: blank,
-        read,
-        answers,
-        write,
+        read: requests::issued(n),
+        ..unused()
     }
 }
 
@@ -97,32 +81,28 @@ pub fn new_row(n: u8, s: u8, round: u16, v: Suit) -> Row
 fn serve_read(w: Row, held: Register, b: u8) -> Served
     ensures { result ≡ record { row = row_served Read w held b; register = register_served Read w held } }
 {
-    let done = register::rmw_read(held, w.rank);
-    let register = done.register;
-    let answer = done.answer;
-    let old = w.read;
-    let read = requests::served(old, b, register::held(answer));
+    let done = held.rmw_read(w.rank);
     let mut row = w;
-    row.read = read;
-    let rank = register::rank_in(answer);
-    let value = register::value_in(answer);
+    row.read = requests::served(w.read, b, done.answer.is_some());
     if b < 9 {
-        row.answers[b as usize] = Answer { rank, value };
+        row.answers[b as usize] = done.answer.unwrap_or(NO_ANSWER);
     }
-    Served { row, register }
+    Served {
+        row,
+        register: done.register,
+    }
 }
 
-// The same for its write.
+// The same for its write, which has no answer to keep: one function of both would ask for the phase at each line.
 fn serve_write(w: Row, held: Register, b: u8) -> Served
     ensures { result ≡ record { row = row_served Write w held b; register = register_served Write w held } }
 {
-    let done = register::rmw_write(held, w.rank, w.written);
-    let register = done.register;
-    let old = w.write;
-    let write = requests::served(old, b, done.taken);
-    let mut row = w;
-    row.write = write;
-    Served { row, register }
+    let done = held.rmw_write(w.rank, w.written);
+    let write = requests::served(w.write, b, done.taken);
+    Served {
+        row: Row { write, ..w },
+        register: done.register,
+    }
 }
 
 pub fn serve(w: Row, held: Register, p: Phase, b: u8) -> Served
@@ -134,152 +114,97 @@ pub fn serve(w: Row, held: Register, p: Phase, b: u8) -> Served
     }
 }
 
-// The request of that phase waits at box b.
+// The request of that phase waits at box b. It and `comes` are one line each over the two of `requests`, each promised in a word of its own.
 pub fn waits(w: Row, p: Phase, b: u8) -> bool
     ensures { result ≡ is_waiting (standing_of (requests_of p w) b) }
 {
-    match p {
-        Phase::Read => {
-            let h = w.read;
-            requests::waits(h, b)
-        }
-        Phase::Write => {
-            let h = w.write;
-            requests::waits(h, b)
-        }
-    }
+    requests::waits(requests_of(w, p), b)
 }
 
 // The read or the write of the row waits at box b.
+#[tactic(auto, using(base::proofs::Tests::picks), unfolding(crate::specs::Rows::waits_at))]
 pub fn waits_at(w: Row, b: u8) -> bool
     ensures { result ≡ waits_at w b }
 {
-    let read = w.read;
-    let write = w.write;
-    if requests::waits(read, b) {
-        return true;
-    }
-    requests::waits(write, b)
+    waits(w, Phase::Read, b) || waits(w, Phase::Write, b)
 }
 
 // How many rows are in use once one was begun.
+#[tactic(auto, using(base::proofs::Tests::picks), unfolding(crate::specs::Rows::used_after))]
 pub fn used_after(used: u8) -> u8
     ensures { result ≡ used_after used }
 {
-    if used < 64 {
-        return used + 1;
-    }
-    used
+    if used < 64 { used + 1 } else { used }
 }
 
 // The answer of that phase is on the way from box b.
 pub fn comes(w: Row, p: Phase, b: u8) -> bool
     ensures { result ≡ is_on_the_way (standing_of (requests_of p w) b) }
 {
-    match p {
-        Phase::Read => {
-            let h = w.read;
-            requests::on_the_way(h, b)
-        }
-        Phase::Write => {
-            let h = w.write;
-            requests::on_the_way(h, b)
-        }
-    }
+    requests::on_the_way(requests_of(w, p), b)
 }
 
 // The row with one phase replaced.
 pub fn with_requests(w: Row, p: Phase, h: Requests) -> Row
     ensures { result ≡ with_requests p w h }
 {
-    let mut row = w;
     match p {
-        Phase::Read => {
-            row.read = h;
-            row
-        }
-        Phase::Write => {
-            row.write = h;
-            row
-        }
+        Phase::Read => Row { read: h, ..w },
+        Phase::Write => Row { write: h, ..w },
     }
 }
 
-// The better of the best so far and one more answer, if that was received.
-fn better_of(x: Best, received: bool, s: Answer) -> Best
-    ensures { result ≡ better x received s }
+// The best answer so far and one more, if that was received: of equals the first stays.
+#[tactic(auto, using(base::proofs::Tests::picks), unfolding(crate::specs::Rows::better, crate::specs::Rows::higher))]
+fn better(best: Option<Answer>, received: bool, s: Answer) -> Option<Answer>
+    ensures { result ≡ better best received s }
 {
-    let value = s.value;
     if !received {
-        return x;
+        return best;
     }
-    if !x.found {
-        return Best {
-            found: true,
-            rank: s.rank,
-            value,
-        };
+    match best {
+        Some(x) if s.rank <= x.rank => best,
+        _ => Some(s),
     }
-    if x.rank < s.rank {
-        return Best {
-            found: true,
-            rank: s.rank,
-            value,
-        };
-    }
-    x
 }
 
-fn best_of(answers: [Answer; 9], h: Requests, n: u8) -> Best
-    requires { n ≤ 9 }
-    ensures { result ≡ best_of answers h n }
+// The best of the answers received from boxes below n, if there is one. From box 9 on there is none.
+fn best_of(answers: [Answer; 9], h: Requests, n: u8) -> Option<Answer>
+    ensures { result ≡ best_of answers h (min n 9) }
 {
-    let value = suits::none();
-    let mut x = Best {
-        found: false,
-        rank: 0,
-        value,
-    };
-    let mut k: u8 = 0;
-    while k < n {
-        let got = requests::heard_from(h, k);
-        let s = answers[k as usize];
-        x = better_of(x, got, s);
-        k += 1;
+    let mut best = None;
+    for k in 0..n.min(9) {
+        best = better(best, requests::heard_from(h, k), answers[k as usize]);
     }
-    x
+    best
 }
 
-fn revision_below(w: Row, n: u8) -> Suit
-    requires { n ≤ 9 }
-    ensures { result ≡ revision_of w n }
+// The revision that follows from the best answer: the offer where there is none, or where it holds nothing.
+#[tactic(auto, using(base::proofs::Tests::picks), unfolding(crate::specs::Rows::revision_from))]
+fn revision_from(best: Option<Answer>, offer: Suit) -> Suit
+    ensures { result ≡ revision_from best offer }
 {
-    let answers = w.answers;
-    let read = w.read;
-    let x = best_of(answers, read, n);
-    if x.rank == 0 {
-        return w.offer;
+    match best {
+        Some(x) if x.rank > 0 => x.value,
+        _ => offer,
     }
-    x.value
 }
 
-// The revision that the attempt writes. From box 9 on there is no answer that could be better.
+// The revision that the attempt writes.
 pub fn revision_of(w: Row, n: u8) -> Suit
     ensures { result ≡ revision_of w n }
 {
-    if n <= 9 {
-        return revision_below(w, n);
-    }
-    revision_below(w, 9)
+    revision_from(best_of(w.answers, w.read, n), w.offer)
 }
 
 // The row with its write of v issued.
+#[tactic(auto, unfolding(crate::specs::Rows::issued))]
 pub fn issue(w: Row, v: Suit, n: u8) -> Row
     ensures { result ≡ issued w v n }
 {
-    let write = requests::issued(n);
-    let mut x = w;
-    x.written = v;
-    x.write = write;
-    x
+    Row {
+        written: v,
+        write: requests::issued(n),
+        ..w
+    }
 }

@@ -5,9 +5,8 @@ use Prim.Native.Nat.{ℕ, zero, suc, ◌+◌, ◌/◌, ◌%◌, ◌^◌, ◌≤�
 use native.Mathlib.Numerals.{towards_suc}
 use native.Mathlib.Omega.{arith}
 use borrow.Author.Tests.{le-leb}
-use lib.Bits.{bit_and, and_le_r}
 use lib.Dec.{leb}
-use lib.ListN.{length, get_or, take, drop, get_or-eq_default}
+use lib.ListN.{length, get_or, take, drop}
 use lib.Seq.{drop-cons, length-sets, sets-eq}
 use Rattle.base.specs.Choice.{when◌then◌else◌}
 use Rattle.base.specs.Bytes.{Bytes, word16, word32, bytes16, bytes32, word_at, with_word}
@@ -18,17 +17,6 @@ pub bytes_below : (s : List ℕ) → Bytes s → (i : ℕ) → get_or s i 0 < 25
 bytes_below [] b i = omega arith
 bytes_below (x ∷ s) b zero = b.0
 bytes_below (x ∷ s) b (suc i) = bytes_below s b.1 i
-
-pub past_end : (s : List ℕ) (p : ℕ) → length s ≤ p → 0 ≡ get_or s p 0
-past_end s p h = sym (get_or-eq_default s 0 h)
-
--- what a mask of 8 bits leaves of a number is a byte
-pub masked : (x mask : ℕ) → mask < 256 → bit_and x mask < 256
-masked x mask h = omega (arith, and_le_r x mask)
-
--- four bytes, of which three are told
-pub four_bytes : {b c d b' c' d' : ℕ} (a : ℕ) → b ≡ b' → c ≡ c' → d ≡ d' → a ∷ b ∷ c ∷ d ∷ [] ≡ a ∷ b' ∷ c' ∷ d' ∷ []
-four_bytes a p q r = rw (p, q, r)
 
 -- ---- a number of two bytes
 -- any number is spelt by its bytes

@@ -54,9 +54,3 @@ pub choice_ap : {A B : Type 0} (g : A → B) (t : Bool) (x y : A) → g (when t 
 unfolding when◌then◌else◌
 choice_ap g true x y = refl
 choice_ap g false x y = refl
-
--- two tests with one answer are one test
-pub choice_either : {A : Type 0} (t u : Bool) (x y : A) → (when (when t then true else u) then x else y) ≡ (when t then x else when u then x else y)
-unfolding when◌then◌else◌
-choice_either true u x y = refl
-choice_either false u x y = refl

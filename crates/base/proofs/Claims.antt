@@ -1,11 +1,15 @@
 -- The claims, proved.
-use Rattle.base.specs.Claims.{SizeClaims, DepartmentClaims, Spelling, PartClaims, Quorums, Masks}
+use Rattle.base.specs.Claims.{RefusalClaims, SizeClaims, DepartmentClaims, Spelling, PartClaims, Quorums, Masks}
+use Rattle.base.proofs.RefusalLaws.{named_number, number_named}
 use Rattle.base.proofs.SizeLaws.{sizes_mean, sizes_hold}
 use Rattle.base.proofs.DepartmentLaws.{departments_mean, departments_hold}
 use Rattle.base.proofs.ByteLaws.{word16_of_bytes, word32_of_bytes, bytes16_of_word, bytes32_of_word, bytes16_length, bytes32_length, bytes16_bytes, bytes32_bytes}
 use Rattle.base.proofs.PartLaws.{part_length, part_whole, part_part, part_same, part_once}
 use Rattle.base.proofs.QuorumLaws.{more_than_half, majority_of, majority_meet}
 use Rattle.base.proofs.MaskLaws.{bit_zero, bit_same, bit_other, count_bits, count_more, count_present, count_past, count_at_most, count_agree, set_bit_fits, mask_majority}
+
+pub refusals : RefusalClaims
+refusals = record { back = named_number; forth = number_named }
 
 pub sizes : SizeClaims
 sizes = record { means = sizes_mean; holds = sizes_hold }

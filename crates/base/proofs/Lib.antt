@@ -2,12 +2,12 @@ pub mod Cases
 pub mod Choices
 pub mod Tests
 pub mod Stores
-pub mod Room
 pub mod ByteLaws
 pub mod RecordLaws
 pub mod PartLaws
 pub mod PutLaws
 pub mod WritingLaws
+pub mod RefusalLaws
 pub mod SizeLaws
 pub mod DepartmentLaws
 pub mod QuorumLaws

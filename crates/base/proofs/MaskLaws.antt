@@ -1,23 +1,21 @@
 -- The laws of a mask: which boxes are in its set, how many, and what adding a box does to both.
 use mathlib.Core.Path.{◌≡◌, refl, sym, ap, subst, ◌∙◌}
 use mathlib.Core.Bool.{Bool, true, false}
-use Prim.Native.Nat.{ℕ, zero, suc, ◌+◌, ◌/◌, ◌%◌, ◌^◌, ◌≤◌, ◌<◌, max}
+use Prim.Native.Nat.{ℕ, zero, suc, ◌+◌, ◌%◌, ◌^◌, ◌≤◌, ◌<◌}
 use native.Mathlib.Decide.{ℕ_discrete}
-use native.Mathlib.Nat.{lt_of_lt_of_le, mod-lt, mod-eq_of_lt, mod-one, zero-mod, zero-div, div_self, div-eq_of_lt, pow-suc, mul-div-mul_right}
+use native.Mathlib.Nat.{lt_of_lt_of_le, mod-lt, mod-eq_of_lt, mod-one, zero-mod}
 use native.Mathlib.Numerals.{one-add}
 use native.Mathlib.Omega.{arith}
 use lib.Dec.{eqb}
 use lib.Pow.{pow_pos, pow_mono, pow-lt, mod-pow-add}
-use lib.Bits.{bit_or, or_shr, or_step, or_lt}
+use lib.Bits.{bit_or, or_lt}
 use lib.Count.{ones, ones_in, ones_cat}
+use Rattle.std.specs.Int.{bit_at}
+use Rattle.std.proofs.lemmas.Nat.Bits.{bit_at_or, bit_at-pow_same, bit_at-pow_other, bit_at_above, bit_at-zero}
 use Rattle.base.specs.Numbers.{quorum}
 use Rattle.base.specs.Mask.{bit, set_bit, count_below}
 use Rattle.base.specs.Quorum.{indicator, count, AtLeast, Majority}
 use Rattle.base.proofs.QuorumLaws.{count_local, count_add, count_le}
-
--- the digit of the box b
-abbrev digit : ℕ → ℕ → ℕ
-digit m b = m / 2 ^ b % 2
 
 abbrev is_one : ℕ → Bool
 is_one d = eqb d 1
@@ -34,37 +32,24 @@ ones_digit zero h = refl
 ones_digit (suc zero) h = refl
 ones_digit (suc (suc d)) h = absurd (omega arith)
 
--- the digits of a power of two
-power_same : (b : ℕ) → digit (2 ^ b) b ≡ 1
-power_same b = omega (arith, div_self (pow_pos b))
-
-power_other : (b j : ℕ) → ¬ (j ≡ b) → digit (2 ^ b) j ≡ 0
-power_other zero zero h = absurd (h refl)
-power_other zero (suc j) h = let z : 1 / 2 ^ suc j ≡ 0 = div-eq_of_lt (pow-lt {i = 0} {j = suc j} (omega arith)) in omega arith
-power_other (suc b) zero h = omega arith
-power_other (suc b) (suc j) h = rw (pow-suc 2 b, pow-suc 2 j, mul-div-mul_right {m = 2} (2 ^ b) (2 ^ j) (omega arith)) (power_other b j (λ e. h (ap suc e)))
-
-digit_or : (m k j : ℕ) → digit (bit_or m k) j ≡ max (digit m j) (digit k j)
-digit_or m k j = rw (or_shr m k j) (omega (arith, or_step (m / 2 ^ j) (k / 2 ^ j)))
-
 -- a box that was added is in the set, and any other box is in it where it was before
 pub bit_same : (m b : ℕ) → bit (set_bit m b) b ≡ true
 unfolding bit set_bit
-bit_same m b = let z : digit (bit_or m (2 ^ b)) b ≡ 1 = omega (arith, digit_or m (2 ^ b) b, power_same b) in ap is_one z
+bit_same m b = let z : bit_at (bit_or m (2 ^ b)) b ≡ 1 = omega (arith, bit_at_or m (2 ^ b) b, bit_at-pow_same b) in ap is_one z
 
 pub bit_other : (m b j : ℕ) → ¬ (j ≡ b) → bit (set_bit m b) j ≡ bit m j
 unfolding bit set_bit
-bit_other m b j h = let z : digit (bit_or m (2 ^ b)) j ≡ digit m j = omega (arith, digit_or m (2 ^ b) j, power_other b j h) in ap is_one z
+bit_other m b j h = let z : bit_at (bit_or m (2 ^ b)) j ≡ bit_at m j = omega (arith, bit_at_or m (2 ^ b) j, bit_at-pow_other b j h) in ap is_one z
 
 -- the mask 0 is the empty set
 pub bit_zero : (b : ℕ) → bit 0 b ≡ false
 unfolding bit
-bit_zero b = let z : digit 0 b ≡ 0 = omega (arith, zero-div (2 ^ b)) in ap is_one z
+bit_zero b = ap is_one (bit_at-zero b)
 
 -- a mask of k digits has none from k on: a u16 for k = 16
 pub bit_past : (k m b : ℕ) → m < 2 ^ k → k ≤ b → bit m b ≡ false
 unfolding bit
-bit_past k m b h p = let z : digit m b ≡ 0 = omega (arith, div-eq_of_lt (lt_of_lt_of_le h (pow_mono p))) in ap is_one z
+bit_past k m b h p = ap is_one (bit_at_above m k b h p)
 
 -- and stays one where a box below k is added
 pub set_bit_fits : (k m b : ℕ) → m < 2 ^ k → b < k → set_bit m b < 2 ^ k
@@ -76,8 +61,8 @@ unfolding count_below bit
 count_suc m n =
     ap (λ (j : ℕ). ones (m % 2 ^ j)) (sym (one-add n))
     ∙ ap ones (mod-pow-add m 1 n)
-    ∙ ones_cat n (digit m n) (m % 2 ^ n) (mod-lt m (pow_pos n))
-    ∙ omega (arith, ones_digit (digit m n) (omega arith), indicator_digit (digit m n) (omega arith))
+    ∙ ones_cat n (bit_at m n) (m % 2 ^ n) (mod-lt m (pow_pos n))
+    ∙ omega (arith, ones_digit (bit_at m n) (omega arith), indicator_digit (bit_at m n) (omega arith))
 
 -- the ones of the n low digits are the boxes below n in the set
 pub count_bits : (m n : ℕ) → count_below m n ≡ count (bit m) n

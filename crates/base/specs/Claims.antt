@@ -1,13 +1,20 @@
--- What is claimed of the sizes of a floor, of department bytes, of the bytes of numbers, of parts of slices, and of sets of boxes. The
--- proofs are `sizes`, `departments`, `spelling`, `part_claims`, `quorums` and `masks` in proofs/Claims.
+-- What is claimed of the refusals' numbers, of the sizes of a floor, of department bytes, of the bytes of numbers, of parts of slices, and of
+-- sets of boxes. The proofs are `refusals`, `sizes`, `departments`, `spelling`, `part_claims`, `quorums` and `masks` in proofs/Claims.
 use Rattle.std.specs.Prelude.{◌≡◌, ◌↔◌, Bool, true, false, List, [], ◌∷◌, ℕ, ◌+◌, ◌*◌, ◌/◌, ◌%◌, ◌^◌, ◌≤◌, ◌<◌, length, get_or}
 use Rattle.std.specs.Borrow.{Bor}
+use Rattle.base.specs.declared.Refusal.{Refusal}
+use Rattle.base.specs.Refusals.{number, named}
 use Rattle.base.specs.Numbers.{sizes_right, quorum}
 use Rattle.base.specs.Departments.{departments_wrong}
 use Rattle.base.specs.Bytes.{Bytes, word16, word32, bytes16, bytes32}
 use Rattle.base.specs.Part.{IsPart}
 use Rattle.base.specs.Mask.{bit, set_bit, count_below}
 use Rattle.base.specs.Quorum.{count, Majority}
+
+-- A refusal and its number, each by the other.
+pub record RefusalClaims : Type 0 where
+  pub back : (r : Refusal) → named (number r) ≡ r
+  pub forth : (k : ℕ) → 1 ≤ k → k ≤ 23 → number (named k) ≡ k
 
 -- refusal 3 does not apply
 pub record Sizes (n m : ℕ) : Type 0 where

@@ -3,6 +3,7 @@ pub mod Numbers
 pub mod Departments
 pub mod Bytes
 pub mod Writing
+pub mod Refusals
 pub mod Records
 pub mod Part
 pub mod Quorum

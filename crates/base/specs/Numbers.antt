@@ -1,15 +1,9 @@
 -- Document 01, "The floor": how many boxes and stations a floor may have, how many boxes make a quorum, and what a rank is.
-use Rattle.std.specs.Prelude.{ℕ, ◌+◌, ◌*◌, ◌/◌, Bool, true, false, ltb}
-use Rattle.base.specs.Choice.{when◌then◌else◌}
+use Rattle.std.specs.Prelude.{ℕ, ◌+◌, ◌*◌, ◌/◌, Bool, ◌&&◌, leb}
 
 -- "A floor has n boxes (1 to 9, numbered from 0) and m stations (1 to 16, numbered from 0)"; refusal 3 where this fails.
 unfoldable pub sizes_right : (n m : ℕ) → Bool
-sizes_right n m =
-    when ltb n 1 then false
-    else when ltb 9 n then false
-    else when ltb m 1 then false
-    else when ltb 16 m then false
-    else true
+sizes_right n m = leb 1 n && leb n 9 && leb 1 m && leb m 16
 
 -- "q = n / 2 rounded down, plus 1": the size of a quorum, a majority of all boxes.
 abbrev pub quorum : (n : ℕ) → ℕ

@@ -1,67 +1,69 @@
-// Bytes as they are printed, and whether two runs of bytes are the same.
-ghost use Rattle.std.specs.Prelude.{◌≡◌, true, take};
+// Bytes as they are printed, and what a writer left in a buffer.
+ghost use Rattle.std.specs.Prelude.{◌≡◌, true, take, drop, ◌++◌, length};
 
 use crate::text;
-
-fn digit(x: u8) -> u8 {
-    if x < 10 {
-        return b'0' + x;
-    }
-    b'a' + x % 16 - 10
-}
+use std::fmt;
 
 // Bytes, each as two hexadecimal digits behind a space.
-pub fn hex(s: &[u8]) {
-    let mut i = 0;
-    while i < s.len() {
-        text::print(&[b' ', digit(s[i] / 16), digit(s[i] % 16)]);
-        i += 1;
+#[derive(Drop)]
+pub struct Hex<'a>(pub &'a [u8]);
+
+impl fmt::Display for Hex<'_> {
+    fn fmt<W: fmt::Write>(&self, f: &mut fmt::Formatter<W>) -> fmt::Result {
+        for b in self.0 {
+            write!(f, " {b:02x}")?;
+        }
+        Ok(())
     }
 }
 
 // The same; of more than 40 bytes the first 20 and the last 20.
-fn short_hex(s: &[u8]) {
-    if s.len() <= 40 {
-        hex(s);
-        return;
-    }
-    hex(text::up_to(s, 20));
-    text::print(b" ..");
-    hex(text::from(s, s.len() - 20));
-}
+#[derive(Drop)]
+struct Short<'a>(&'a [u8]);
 
-// Whether two runs of bytes are the same. It says so of no others.
-pub fn same(a: &[u8], b: &[u8]) -> bool
-    ensures { result ≡ true → a.now ≡ b.now }
-{
-    if a.len() != b.len() {
-        return false;
-    }
-    let mut i = 0;
-    while i < a.len() {
-        if a[i] != b[i] {
-            return false;
+impl fmt::Display for Short<'_> {
+    fn fmt<W: fmt::Write>(&self, f: &mut fmt::Formatter<W>) -> fmt::Result {
+        let s = self.0;
+        if s.len() <= 40 {
+            return write!(f, "{}", Hex(s));
         }
-        i += 1;
+        write!(
+            f,
+            "{} ..{}",
+            Hex(text::up_to(s, 20)),
+            Hex(text::from(s, s.len() - 20))
+        )
     }
-    true
-}
-
-// The first so many bytes of a buffer.
-pub fn first(buffer: &mut [u8], room: usize) -> &mut [u8]
-    ensures { result.now ≡ take room buffer.old }
-{
-    if room < buffer.len() {
-        return &mut buffer[0..room];
-    }
-    buffer
 }
 
 // A buffer on a line of its own: the bytes up to an end, a stroke, and those behind.
-pub fn buffer_line(buffer: &[u8], end: usize) {
-    text::print(b"\n ");
-    short_hex(text::up_to(buffer, end));
-    text::print(b" /");
-    short_hex(text::from(buffer, end));
-    text::print(b"\n");
+#[derive(Drop)]
+pub(crate) struct Halves<'a> {
+    pub(crate) buffer: &'a [u8],
+    pub(crate) end: usize,
+}
+
+impl fmt::Display for Halves<'_> {
+    fn fmt<W: fmt::Write>(&self, f: &mut fmt::Formatter<W>) -> fmt::Result {
+        let front = Short(text::up_to(self.buffer, self.end));
+        let back = Short(text::from(self.buffer, self.end));
+        writeln!(f, "\n {front} /{back}")
+    }
+}
+
+// Whether a writer left these bytes at the start of a buffer, and behind them what was there before. It says so of nothing else.
+pub fn left(buffer: &[u8], before: &[u8], bytes: &[u8]) -> bool
+    ensures front { result ≡ true → take (length bytes.now) buffer.now ≡ bytes.now }
+    ensures back { result ≡ true → drop (length bytes.now) buffer.now ≡ drop (length bytes.now) before.now }
+{
+    let size = bytes.len();
+    text::up_to(buffer, size) == bytes && text::from(buffer, size) == text::from(before, size)
+}
+
+// The first so many bytes of a buffer. Not by `get_mut`: it lends the buffer also where it answers none.
+pub fn first(buffer: &mut [u8], room: usize) -> &mut [u8]
+    ensures { result.now ≡ take room buffer.old }
+{
+    let end = room.min(buffer.len());
+    &mut buffer[..end]
 }

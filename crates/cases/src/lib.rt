@@ -4,19 +4,16 @@
 // a bar, and the notation of its bytes. Any other line is printed as it stands; among them is the legend of the program's words.
 #![tactic(auto)]
 
-ghost use Rattle.std.specs.Prelude.{◌≡◌, length};
-
 mod buffers;
 mod notation;
+mod output;
+mod program;
+mod refusals;
 mod text;
 
-pub use buffers::{buffer_line, first, hex, same};
+pub use buffers::{Hex, first, left};
 pub use notation::bytes;
-pub use text::{fill, find, from, least, pick, print, record, refusal, up_to};
-
-// Room for a program's input. Bytes behind it are not read: the last line of an input is printed, and would be missing.
-pub fn room() -> [u8; 196608]
-    ensures { 196608 ≡ length result }
-{
-    [0; 196608]
-}
+pub use output::Output;
+pub use program::{Case, play, room, unknown};
+pub use refusals::{Refused, RefusedBut, written};
+pub use text::{find, from, number, up_to};

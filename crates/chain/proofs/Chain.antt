@@ -40,7 +40,7 @@ use Rattle.commands.specs.declared.Command.{Command}
 use Rattle.commands.specs.declared.Command.TheVariants.{Serve}
 use Rattle.commands.specs.declared.Outcome.TheVariants as said
 use Rattle.attempts.specs.Rows.{row_department, answer0, answer_of, row_served, register_served}
-use Rattle.attempts.specs.declared.Answer.{Answer}
+use Rattle.register.specs.declared.Answer.{Answer}
 use Rattle.attempts.specs.declared.Row.{Row}
 use Rattle.floor.specs.Floors.{box_at, row_at, register_at}
 use Rattle.floor.specs.Effects.{served_by}

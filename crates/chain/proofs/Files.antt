@@ -1,4 +1,5 @@
 -- The claims of demand 3 for a played file.
+use Rattle.std.proofs.Common.{None, Some}
 use Prim.Native.Nat.{ℕ}
 use native.Mathlib.Omega.{arith}
 use native.Mathlib.Decide.{ℕ_discrete}
@@ -13,7 +14,6 @@ use Rattle.floor.proofs.EmptyFloors.{told_at}
 use Rattle.floor.specs.Runs.{floor_left}
 use Rattle.floor.specs.RunClaims.{PlayedOver}
 use Rattle.floor.specs.declared.Floor.{Floor}
-use Rattle.attempts.specs.declared.Decision.TheVariants.{None, Revision}
 use Rattle.attempts.specs.declared.Station.{Station}
 use Rattle.drill_file.specs.DrillFile.{boxes_of, stations_of, file_refusal, records_of}
 use Rattle.player.specs.Play.{told_in, played_of}
@@ -36,7 +36,7 @@ refused_file : (file : List ℕ) → ¬ (file_refusal file ≡ 0) → PlayedFile
 refused_file file e =
     record { agreement = λ s j u v _ h _. absurd (nothing s u h); validity = λ s v h. absurd (nothing s v h) }
   where
-    nothing : (s : ℕ) (v : Suit) → decided_in file s ≡ Revision v → ⊥
+    nothing : (s : ℕ) (v : Suit) → decided_in file s ≡ Some v → ⊥
     nothing s v h = clash (ap is_none (ap (λ (x : Played). (station_at x.floor s).decided) (played_refused file e) ∙ none_decided s)) (ap is_none h)
 
 module _ (file : List ℕ) (e : file_refusal file ≡ 0) where
@@ -55,7 +55,7 @@ module _ (file : List ℕ) (e : file_refusal file ≡ 0) where
   safe : Demand3 first (accepted_in file)
   safe = demand3 (boxes_of file) (stations_of file) (told_in file) (accepted_in file)
 
-  decides : (s : ℕ) (v : Suit) → decided_in file s ≡ Revision v → Before (DecidesAt (trace_of first (accepted_in file)) s v) (length (accepted_in file))
+  decides : (s : ℕ) (v : Suit) → decided_in file s ≡ Some v → Before (DecidesAt (trace_of first (accepted_in file)) s v) (length (accepted_in file))
   decides s v h = (safe.shown s (length (accepted_in file))).decided v (ap (λ (g : Floor). (station_at g s).decided) (sym left) ∙ h)
 
   -- what a station decided was decided in its department

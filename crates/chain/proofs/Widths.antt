@@ -7,12 +7,13 @@ use mathlib.Core.Bool.{true, false}
 use mathlib.Core.List.{List, [], ◌∷◌}
 use lib.ListN.{get_or, replicate}
 use Rattle.suits.specs.Suits.{FourBytes}
+use Rattle.std.proofs.Common.{Option}
 use Rattle.suits.specs.declared.Suit.{Suit}
 use Rattle.base.specs.Bytes.{Bytes}
 use Rattle.base.specs.Records.{AllRecords}
 use Rattle.base.proofs.Choices.{by_test}
 use Rattle.base.proofs.Stores.{set_all, get_d_same}
-use Rattle.register.specs.Register.{box0, register_of}
+use Rattle.register.specs.Register.{box0, register_of, value_in}
 use Rattle.register.specs.declared.Department.{Department}
 use Rattle.register.specs.declared.Department.TheVariants.{Sails, Canvas}
 use Rattle.register.proofs.DepartmentLaws.{register_moved, same_or_not, box_own, box_other}
@@ -32,10 +33,9 @@ use Rattle.commands.specs.declared.Outcome.{Outcome}
 use Rattle.commands.proofs.Encodings.{decode_fielded}
 use Rattle.attempts.specs.Rows.{row_department, answer0, answer_of, row0, unused_row, new_row, row_served, row_heard, register_served, revision_from, revision_of, issued}
 use Rattle.attempts.specs.Claims.{Found, nothing, highest}
-use Rattle.attempts.specs.declared.Answer.{Answer}
-use Rattle.attempts.specs.declared.rows.Best.{Best}
+use Rattle.register.specs.declared.Answer.{Answer}
 use Rattle.attempts.specs.declared.Row.{Row}
-use Rattle.attempts.proofs.Answers.{best_found}
+use Rattle.attempts.proofs.AnswerLaws.{best_found}
 use Rattle.runs.specs.Runs.{state_at}
 use Rattle.floor.specs.Floors.{box_at, row_at, register_at, empty_floor, new_floor_of}
 use Rattle.floor.specs.Effects.{heard_row, served_by}
@@ -78,7 +78,7 @@ heard_fits : (p : Phase) {w : Row} (b : ℕ) → RowFits w → RowFits (row_hear
 heard_fits Read b h = record { rank = h.rank; offer = h.offer; written = h.written; answers = h.answers }
 heard_fits Write b h = record { rank = h.rank; offer = h.offer; written = h.written; answers = h.answers }
 
-found_fits : {l : List Answer} {m : Requests} {k : ℕ} {x : Best} → ((j : ℕ) → (get_or l j answer0).value.r0 < 2 ^ 32) → Found l m k x → x.value.r0 < 2 ^ 32
+found_fits : {l : List Answer} {m : Requests} {k : ℕ} {x : Option Answer} → ((j : ℕ) → (get_or l j answer0).value.r0 < 2 ^ 32) → Found l m k x → (value_in x).r0 < 2 ^ 32
 found_fits h (nothing z) = omega arith
 found_fits h (highest {b} p q r t) = h b
 

@@ -17,7 +17,7 @@ use Rattle.requests.specs.declared.Phase.TheVariants.{Read, Write}
 use Rattle.commands.specs.Outcomes.{is_refused}
 use Rattle.commands.specs.declared.Command.TheVariants.{Serve}
 use Rattle.attempts.specs.Rows.{answer0, row_department}
-use Rattle.attempts.specs.declared.Answer.{Answer}
+use Rattle.register.specs.declared.Answer.{Answer}
 use Rattle.floor.specs.Floors.{row_at, register_at}
 use Rattle.floor.specs.Runs.{floor_at, said_at}
 use Rattle.floor.specs.declared.Floor.{Floor}

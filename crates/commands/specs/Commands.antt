@@ -1,5 +1,6 @@
 -- Document 01, "Steps" and "The drill file": a step as it is asked for, and its 8-byte record.
-use Rattle.std.specs.Prelude.{ℕ, List, [], ◌∷◌, ◌++◌, Bool, true, false, get_or, drop, replicate, eqb}
+use Rattle.std.specs.Prelude.{ℕ, List, [], ◌∷◌, ◌++◌, Bool, get_or, drop, replicate, eqb}
+use Rattle.std.specs.List.{list_all}
 use Rattle.base.specs.Choice.{when◌then◌else◌}
 use Rattle.base.specs.Bytes.{word16, word32, bytes16, bytes32}
 use Rattle.suits.specs.Suits.{single}
@@ -10,8 +11,7 @@ use Rattle.commands.specs.declared.Command.TheVariants.{Begin, Serve, Deliver, S
 
 -- all bytes are 0
 unfoldable pub all_zero : (bytes : List ℕ) → Bool
-all_zero [] = true
-all_zero (x ∷ l) = when eqb x 0 then all_zero l else false
+all_zero bytes = list_all (λ x. eqb x 0) bytes
 
 -- the command c, of a record whose bytes behind its fields are `spare`; 7: "or a byte that should be zero is not"
 unfoldable pub spared : (spare : List ℕ) (c : Command) → Command

@@ -5,15 +5,14 @@ ghost use Rattle.std.specs.Prelude.{◌≡◌, drop, ◌≤◌};
 ghost use Rattle.requests.specs.Requests.{of_phase};
 ghost use Rattle.commands.specs.Commands.{all_zero, spared, command_of, encode_of};
 
+use base::Refusal;
 use requests::Phase;
 use suits::Suit;
 
 mod outcomes;
 
-pub use outcomes::{ends, number, refused, value};
-
 // A step as its record's fields say it: station, round and revision; phase, attempt and box; box; station; box. `Malformed` is any
-// record that refusal 7 turns back.
+// record that refusal 7 turns back: a case and no Option, since every record is a step, which a floor accepts or refuses.
 #[derive(Clone, Copy)]
 pub enum Command {
     Begin(u8, u16, Suit),
@@ -25,7 +24,8 @@ pub enum Command {
     Malformed,
 }
 
-// What came of a step; `Refused` has the number under "Turned back".
+// What came of a step; `Refused` has why it was turned back. A case and no Result: a trace is a list of what steps said, the refused ones
+// included, and number and value are of every case (`number_of`, `value_of`).
 #[derive(Clone, Copy)]
 pub enum Outcome {
     Begun(u8),
@@ -37,22 +37,15 @@ pub enum Outcome {
     Stopped(u8),
     Gone(u8),
     Back(u8),
-    Refused(u8),
+    Refused(Refusal),
 }
 
-// The bytes from a place on are zero.
-fn zeros(r: [u8; 8], from: usize) -> bool
-    requires { from ≤ 8 }
-    ensures { result ≡ all_zero (drop from r) }
+// All bytes are zero.
+#[tactic(auto, unfolding(crate::specs::Commands::all_zero))]
+fn zeros(bytes: &[u8]) -> bool
+    ensures { result ≡ all_zero bytes.now }
 {
-    let mut i = from;
-    while i < 8 {
-        if r[i] != 0 {
-            return false;
-        }
-        i += 1;
-    }
-    true
+    bytes.iter().all(|&x| x == 0)
 }
 
 // The command, if the bytes behind its fields are zero.
@@ -60,17 +53,18 @@ fn spare(r: [u8; 8], from: usize, c: Command) -> Command
     requires { from ≤ 8 }
     ensures { result ≡ spared (drop from r) c }
 {
-    if zeros(r, from) {
+    if zeros(&r[from..]) {
         return c;
     }
     Command::Malformed
 }
 
+#[tactic(auto, using(base::proofs::Tests::picks), unfolding(crate::specs::Commands::command_of))]
 pub fn decode(r: [u8; 8]) -> Command
     ensures { result ≡ command_of r }
 {
-    let kind = r[0];
-    match kind {
+    // Document 01's form: one match on the record's kind, whose arms name every kind.
+    match r[0] {
         1 => Command::Begin(
             r[1],
             base::be16(r[2], r[3]),

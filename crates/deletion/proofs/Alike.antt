@@ -1,5 +1,6 @@
 -- Two floors that are alike for a department: a step of it, or a box stop, that one of them accepts is accepted by the other, says the same,
 -- and leaves them alike.
+use Rattle.std.proofs.Common.{Option, Some}
 use Prim.Native.Nat.{ℕ, zero, suc, ◌+◌, ◌<◌, ◌≤◌, max}
 use native.Mathlib.Omega.{arith}
 use native.Mathlib.Decide.{ℕ_discrete, dec_lt}
@@ -28,12 +29,11 @@ use Rattle.attempts.specs.Stations.{station0, with_state}
 use Rattle.attempts.specs.Rows.{row0, row_department, first_row, new_row, used_after, issued, revision_of, row_heard}
 use Rattle.attempts.specs.declared.State.TheVariants as state
 use Rattle.attempts.specs.declared.State.{State}
-use Rattle.attempts.specs.declared.Decision.TheVariants.{Revision}
 use Rattle.attempts.specs.declared.Station.{Station}
 use Rattle.attempts.specs.declared.Row.{Row}
 use Rattle.attempts.proofs.RowDepartments.{row_own}
 use Rattle.floor.specs.Floors.{box_at, station_at, row_at, owner_at, department_at, share_of, used_of, highest_of, InUse, with_share, with_box, with_register, with_station, with_row}
-use Rattle.floor.specs.Free.{better_in, free_below, next_row}
+use Rattle.floor.specs.Free.{better_in, free_below, row_in, next_row}
 use Rattle.floor.specs.Effects.{stepped, row_taken, beginner, heard_row, decider, after_abort, read_ended_on, write_ended_on, verdict_on, heard_on, received_on, delivered_on, with_away, effect_on}
 use Rattle.floor.specs.Step.{apply_of}
 use Rattle.floor.specs.Soundness.{Sound}
@@ -157,7 +157,7 @@ module _ {d : Department} {f g : Floor} (k : Alike d f g) where
   }
 
   -- which row is free, and which one a begin takes
-  better_alike : (x : Lowest) (w : Row) (st : State) (a : ℕ) → better_in x w st g.n a ≡ better_in x w st f.n a
+  better_alike : (x : Option Lowest) (w : Row) (st : State) (a : ℕ) → better_in x w st g.n a ≡ better_in x w st f.n a
   better_alike x w st a = rw k.boxes refl
 
   used_alike : used_of g d ≡ used_of f d
@@ -177,13 +177,13 @@ module _ {d : Department} {f g : Floor} (k : Alike d f g) where
         let p = owner_alike a e (of_use f d a e (omega arith)) in
         better_alike (free_below g d c) (row_at g a) (owner_at g a).state a
         ∙ ap (λ (s : State). better_in (free_below g d c) (row_at g a) s f.n a) (ap (λ (x : Station). x.state) p)
-        ∙ ap₂ (λ (x : Lowest) (w : Row). better_in x w (owner_at f a).state f.n a) (found_alike u c (omega arith)) (k.same.rows a e)
+        ∙ ap₂ (λ (x : Option Lowest) (w : Row). better_in x w (owner_at f a).state f.n a) (found_alike u c (omega arith)) (k.same.rows a e)
 
     next_alike : next_row g d ≡ next_row f d
     next_alike = elim (dec_lt (used_of f d) 64) [
       | yes h ↦ next_unused g d (omega (arith, used_alike)) ∙ ap (λ (c : ℕ). first_row d + c) used_alike ∙ sym (next_unused f d h)
       | no h ↦
-          next_full g d (omega (arith, used_alike)) ∙ ap (λ (x : Lowest). x.row) (found_alike (omega arith) 64 (omega arith)) ∙ sym (next_full f d (omega arith))
+          next_full g d (omega (arith, used_alike)) ∙ ap row_in (found_alike (omega arith) 64 (omega arith)) ∙ sym (next_full f d (omega arith))
     ]
 
 -- the step belongs to the department, or is shared
@@ -231,7 +231,7 @@ module _ {d : Department} {f g : Floor} (k : Alike d f g) (o : Owned f) where
     decided_alike : AlikeStep d (write_ended_on f a w) (write_ended_on g a (heard_row g p a b))
     decided_alike =
         subst (λ (x : Row). AlikeStep d (write_ended_on f a w) (write_ended_on g a x)) (sym heard_same)
-        (subst (λ (x : Station). AlikeStep d (write_ended_on f a w) (stepped (with_station (with_row g a w) w.station (record { department = x.department; state = state.Decided a; last = x.last; decided = Revision w.written })) (said.Decided w.written))) (sym station_alike)
+        (subst (λ (x : Station). AlikeStep d (write_ended_on f a w) (stepped (with_station (with_row g a w) w.station (record { department = x.department; state = state.Decided a; last = x.last; decided = Some w.written })) (said.Decided w.written))) (sym station_alike)
         (record { outcome = refl; floor = alike_station (alike_row k a w) w.station (decider f a w) }))
 
     aborted_alike : AlikeStep d (stepped (after_abort f a w) (said.Aborted a)) (stepped (after_abort g a (heard_row g p a b)) (said.Aborted a))

@@ -1,61 +1,27 @@
 -- Decimal digits: as many as the number needs, and no more than 20; they spell it.
 use Prim.Native.Nat.{ℕ, zero, suc, ◌+◌, ◌-◌, ◌*◌, ◌/◌, ◌%◌, ◌^◌, ◌≤◌, ◌<◌}
-use native.Mathlib.Nat.{eq-zero-or-pos}
 use native.Mathlib.Omega.{arith}
-use mathlib.Core.Logic.{inl, inr}
-use mathlib.Core.Path.{◌≡◌, refl, sym, ap, ap₂, subst, ◌∙◌}
+use mathlib.Core.Path.{◌≡◌, refl, sym, ◌∙◌}
 use mathlib.Core.List.{List, [], ◌∷◌, ◌++◌}
 use lib.Dec.{ltb}
-use lib.Pow.{pow-add}
 use lib.ListN.{length, get_or, length-append}
 use borrow.Author.Tests.{ltb-true, lt-ltb, le-ltb}
-use Rattle.io.specs.Digits.{hex_digit_ascii, last_digits, IsDigitCount}
+use Rattle.std.specs.Fmt.{decimal}
+use Rattle.std.proofs.lemmas.Fmt.{AppendsLastDigit, decimal_from_appends, length-decimal-le}
 use Rattle.base.proofs.Choices.{on_true, on_false, by_test}
 use Rattle.drill.specs.Report.{digits_of, decimal_of}
 use Rattle.drill.specs.Claims.{spelt}
 
-power_some : (k : ℕ) → 1 ≤ 10 ^ k
-power_some zero = omega arith
-power_some (suc k) = omega (arith, power_some k)
-
--- a digit below 10
-glyph_digit : (d : ℕ) → d < 10 → hex_digit_ascii d ≡ 48 + d
-glyph_digit d h = rw (lt-ltb d 10 h)
-
--- the fewest digits that hold a number are its decimal
-fewest_digits : (k n r : ℕ) → r ≤ k → IsDigitCount 10 1 n r → last_digits 10 r n ≡ digits_of k n
+-- what std prints of a number of 64 bits
+digits_append : AppendsLastDigit digits_of
 unfolding digits_of
-fewest_digits zero n r h f = absurd (omega (arith, f.0))
-fewest_digits (suc k) n zero h f = absurd (omega (arith, f.0))
-fewest_digits (suc k) n (suc zero) h f =
-    let small : n < 10 = omega (arith, f.1) in
-    let same : n % 10 ≡ n = omega arith in
-    on_true _ (lt-ltb n 10 small) (ap (λ (d : ℕ). d ∷ []) (glyph_digit (n % 10) (omega arith) ∙ ap (λ (d : ℕ). 48 + d) same))
-fewest_digits (suc k) n (suc (suc r)) h f =
-    let some = power_some r in
-    let one_less : suc (suc r) - 1 ≡ suc r = omega arith in
-    let least : 10 ^ suc r ≤ n = subst (λ (x : ℕ). 10 ^ x ≤ n) one_less (f.2 (omega arith)) in
-    let fewer : suc r - 1 ≡ r = omega arith in
-    let most = f.1 in
-    let large : 10 ≤ n = omega arith in
-    on_false _ (le-ltb n 10 large)
-    (ap₂ (λ (l : List ℕ) (d : ℕ). l ++ (d ∷ []))
-    (fewest_digits k (n / 10) (suc r) (omega arith) (omega arith, omega arith, λ p. subst (λ (x : ℕ). 10 ^ x ≤ n / 10) (sym fewer) (omega arith)))
-    (glyph_digit (n % 10) (omega arith)))
+digits_append = record {
+  one = λ k n l. sym (on_true _ (lt-ltb n 10 l) refl);
+  more = λ k n l. sym (on_false _ (le-ltb n 10 l) refl);
+}
 
--- a number of 64 bits has at most 20
-few : (n r : ℕ) → n < 18446744073709551616 → IsDigitCount 10 1 n r → r ≤ 20
-few n r h f = elim (eq-zero-or-pos (r - 20)) [
-  | inl e ↦ omega arith
-  | inr p ↦
-      let least = f.2 (omega arith) in
-      let split : 20 + (r - 21) ≡ r - 1 = omega arith in
-      let more : 10 ^ (r - 1) ≡ 10 ^ 20 * 10 ^ (r - 21) = ap (λ (x : ℕ). 10 ^ x) (sym split) ∙ pow-add 10 20 (r - 21) in
-      absurd (omega (arith, power_some (r - 21)))
-]
-
-pub decimal_digits : (n r : ℕ) → n < 18446744073709551616 → IsDigitCount 10 1 n r → last_digits 10 r n ≡ decimal_of n
-decimal_digits n r h f = fewest_digits 20 n r (few n r h f) f
+pub decimal_printed : (n : ℕ) → n < 2 ^ 64 → decimal_of n ≡ decimal n
+decimal_printed n h = decimal_from_appends digits_of digits_append 20 n h (length-decimal-le 20 n (omega arith) (omega arith) h)
 
 pub digits_few : (k n : ℕ) → length (digits_of k n) ≤ k
 unfolding digits_of

@@ -1,19 +1,19 @@
 -- What is printed of a file: all lines where it has a label, which an accepted file has and a refused one has not; and fewer than 2,048 bytes.
+use Rattle.std.proofs.Common.{None, Option, Some}
 use Prim.Native.Nat.{ℕ, zero, suc, ◌+◌, ◌*◌, ◌≤◌}
 use native.Mathlib.Omega.{arith}
 use mathlib.Core.Path.{◌≡◌, refl, sym, ap, ◌∙◌}
-use mathlib.Core.List.{List}
+use mathlib.Core.List.{List, []}
 use lib.Dec.{eqb}
 use lib.ListN.{length, length-append}
-use lib.Seq.{take_all}
 use borrow.Author.Tests.{eq-eqb, ne_eqb, eqb-true, eqb-false}
+use Rattle.base.specs.Refusals.{number_if}
 use Rattle.base.proofs.Cases.{by_cases}
 use Rattle.base.proofs.Choices.{on_true, on_false}
 use Rattle.attempts.specs.declared.State.{State}
 use Rattle.attempts.specs.declared.State.TheVariants as state
-use Rattle.attempts.specs.declared.Decision.{Decision}
-use Rattle.attempts.specs.declared.Decision.TheVariants.{None, Revision}
 use Rattle.attempts.specs.declared.Station.{Station}
+use Rattle.suits.specs.declared.Suit.{Suit}
 use Rattle.floor.specs.Floors.{station_at}
 use Rattle.floor.specs.declared.Floor.{Floor}
 use Rattle.floor.specs.declared.Played.{Played}
@@ -22,31 +22,30 @@ use Rattle.floor.proofs.ListLaws.{sound_at}
 use Rattle.drill_file.specs.DrillFile.{file_refusal, label_of, records_of}
 use Rattle.drill_file.proofs.LayoutLaws.{accepted_parts}
 use Rattle.player.specs.Play.{played_of, last_rank}
-use Rattle.player.proofs.PlayLaws.{played_refused, player_claims}
-use Rattle.drill.specs.Report.{ascii, state_word, decision_word, panel_line, station_line, station_lines, end_line, lines_of, report_of}
+use Rattle.player.proofs.PlayLaws.{played_refused, refused_named, player_claims}
+use Rattle.drill.specs.Report.{state_word, decision_word, panel_line, station_line, station_lines, end_line, lines_of, report_of}
 use Rattle.drill.specs.Text.{text_put}
 use Rattle.drill.proofs.Decimals.{digits_few}
+use Rattle.drill.proofs.TextLaws.{put_whole}
 
 -- how long the words and the lines are at most
 state_few : (x : State) → length (state_word x) ≤ 7
-unfolding ascii
 state_few state.Idle = omega arith
 state_few (state.Reading a) = omega arith
 state_few (state.Writing a) = omega arith
 state_few (state.Decided a) = omega arith
 state_few state.Gone = omega arith
 
-decision_few : (x : Decision) → length (decision_word x) ≤ 20
-unfolding ascii
+decision_few : (x : Option Suit) → length (decision_word x) ≤ 20
 decision_few None = omega arith
-decision_few (Revision v) = digits_few 20 v.r0
+decision_few (Some v) = digits_few 20 v.r0
 
 panel_few : (label : List ℕ) (n m : ℕ) → length (panel_line label n m) ≤ 64 + length label
-unfolding ascii panel_line
+unfolding panel_line
 panel_few label n m = simp length-append (omega (arith, digits_few 20 n, digits_few 20 m))
 
 station_few : (number : ℕ) (x : Station) → length (station_line number x) ≤ 79
-unfolding ascii station_line
+unfolding station_line
 station_few number x =
     simp length-append (omega (arith, digits_few 20 number, digits_few 20 (last_rank x.last number), state_few x.state, decision_few x.decided))
 
@@ -56,13 +55,8 @@ stations_few f zero = omega arith
 stations_few f (suc m) = simp length-append (omega (arith, stations_few f m, station_few m (station_at f m)))
 
 end_few : (steps refusal : ℕ) → length (end_line steps refusal) ≤ 46
-unfolding ascii end_line
+unfolding end_line
 end_few steps refusal = simp length-append (omega (arith, digits_few 20 steps, digits_few 20 refusal))
-
--- from the start of a buffer that has room
-put_whole : (out bytes : List ℕ) → length bytes ≤ length out → text_put out 0 bytes ≡ bytes
-unfolding text_put
-put_whole out bytes h = take_all (length out) bytes h
 
 -- which lines are printed of a file
 module _ (s : List ℕ) where
@@ -87,7 +81,7 @@ module _ (s : List ℕ) where
         arith,
         panel_few (label_of s) p.floor.n p.floor.m,
         stations_few p.floor p.floor.m,
-        end_few p.accepted p.refusal,
+        end_few p.accepted (number_if p.refusal),
         played_stations e,
         (accepted_parts s e).labelled.1,
       ))
@@ -113,12 +107,13 @@ module _ (s l : List ℕ) (p : Played) (label : l ≡ label_of s) (run : p ≡ p
   pub stations_most : ¬ (length l ≡ 0) → p.floor.m ≤ 16
   stations_most h = rw run (played_stations s (accepted h))
 
-  -- the end line alone, and all lines, put into a buffer that has room
-  pub end_put : (out : List ℕ) → 2048 ≤ length out → length l ≡ 0 → text_put out 0 (end_line p.accepted p.refusal) ≡ report_of s
-  end_put out room h =
-      put_whole out _ (omega (arith, end_few p.accepted p.refusal)) ∙ rw (run, played_refused s (refused h)) (sym (report_end s (refused h)))
+  -- the end line alone, and all lines, are the text
+  pub end_put : length l ≡ 0 → text_put [] (end_line p.accepted (number_if p.refusal)) ≡ report_of s
+  end_put h =
+      put_whole _ (omega (arith, end_few p.accepted (number_if p.refusal)))
+      ∙ rw (run, played_refused s (refused h), refused_named s (refused h)) (sym (report_end s (refused h)))
 
-  pub lines_put : (out : List ℕ) → 2048 ≤ length out → ¬ (length l ≡ 0) → text_put out 0 (lines_of l p) ≡ report_of s
-  lines_put out room h =
+  pub lines_put : ¬ (length l ≡ 0) → text_put [] (lines_of l p) ≡ report_of s
+  lines_put h =
       let all : lines_of l p ≡ report_of s = rw (label, run) (sym (report_lines s (accepted h))) in
-      rw all (put_whole out (report_of s) (omega (arith, report_few s)))
+      rw all (put_whole (report_of s) (report_few s))

@@ -1,6 +1,6 @@
--- Text that is made in a lent buffer, one run of bytes behind the other. The words of private contracts.
-use Rattle.std.specs.Prelude.{ℕ, List, ◌++◌, length, take}
+-- The text that is printed, one run of bytes behind the other. The words of private contracts.
+use Rattle.std.specs.Prelude.{ℕ, List, ◌++◌, take}
 
--- the first `at` bytes of the buffer with more behind them, as far as the buffer goes
-unfoldable pub text_put : (out : List ℕ) (at : ℕ) (bytes : List ℕ) → List ℕ
-text_put out at bytes = take (length out) (take at out ++ bytes)
+-- a text with more behind it, as far as there is room
+unfoldable pub text_put : (text more : List ℕ) → List ℕ
+text_put text more = take 2048 (text ++ more)

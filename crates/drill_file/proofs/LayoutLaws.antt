@@ -1,11 +1,12 @@
 -- An accepted file is exactly its parts, in the documented layout; and a file so laid out is accepted, with these parts.
 use Prim.Native.Nat.{ℕ, suc, ◌+◌, ◌-◌, ◌*◌, ◌/◌, ◌%◌, ◌≤◌}
-use mathlib.Core.Path.{◌≡◌, refl, sym, ap, ◌∙◌}
+use mathlib.Core.Path.{◌≡◌, refl, sym, ap, ap₂, ◌∙◌}
 use mathlib.Core.List.{List, [], ◌∷◌, ◌++◌, flatten, append_assoc}
 use native.Mathlib.Omega.{arith}
 use borrow.Author.Tests.{eq-eqb}
 use lib.ListN.{length, get_or, drop, length-append, length-drop, take-append-drop}
 use lib.Seq.{drop-cons, drop-drop, take_all, length-take-le, take-append_seam, drop-append_seam}
+use Rattle.std.specs.Prelude.{Ok}
 use Rattle.base.specs.Bytes.{Bytes, bytes16}
 use Rattle.base.specs.Records.{records_from, records_in}
 use Rattle.base.proofs.Choices.{on_true}
@@ -14,7 +15,7 @@ use Rattle.base.proofs.RecordLaws.{record_length, records_length, record_nth, re
 use Rattle.drill_file.specs.DrillFile.{stated_size, version_of, boxes_of, stations_of, label_length, label_part, label_end, department_count, departments_part, records_start, after_header, record_count, file_refusal, header_of, label_of, departments_of, records_of}
 use Rattle.drill_file.specs.Claims.{FileParts, LaidOut}
 use Rattle.drill_file.specs.Layout.{body_of, file_of}
-use Rattle.drill_file.specs.declared.Header.TheVariants.{Accepted}
+use Rattle.drill_file.specs.declared.Header.{Header}
 use Rattle.drill_file.proofs.TestLaws.{accepted_passed, passed_accepted}
 use Rattle.drill_file.proofs.FileLaws.{due_one, due_two, due_most, header_accepted, accepted_values}
 
@@ -98,9 +99,9 @@ module _ (s : List ℕ) (e : file_refusal s ≡ 0) where
       rw (← body_is, ← stated) (cc (six s z.least, bytes16_of_word (get_or s 0 0) (get_or s 1 0) (bytes_below s b 1)))
 
 -- whatever file of bytes the reader accepts is laid out as it says
-pub header_layout : (s : List ℕ) → Bytes s → (n m start count : ℕ) → header_of s ≡ Accepted n m start count → LaidOut s n m start count
-header_layout s b n m start count h =
-    let v = accepted_values s n m start count h in
+pub header_layout : (s : List ℕ) → Bytes s → (h : Header) → header_of s ≡ Ok h → LaidOut s h.n h.m h.start h.count
+header_layout s b h said =
+    let v = accepted_values s h said in
     let e = v.accepted in
     rw (v.boxes, v.stations, v.starts, v.counts)
     (record {
@@ -169,10 +170,11 @@ module _ (version n m : ℕ) (l ds : List ℕ) (rs : List (List ℕ)) where
           recorded = record { whole = omega (arith, after); few = rw count p.few };
         })
 
-    pub written_accepted : header_of file ≡ Accepted n m (6 + length l + length ds) (length rs)
+    pub written_accepted : header_of file ≡ Ok (record { n = n; m = m; start = 6 + length l + length ds; count = length rs })
     unfolding file_of body_of
     written_accepted =
-        sym (header_accepted file 0 (sym written_passed) refl n m (6 + length l + length ds) (length rs) refl refl (sym start) (sym count))
+        header_accepted file written_passed
+        ∙ ap₂ (λ (a k : ℕ). Ok (record { n = n; m = m; start = a; count = k })) start count
 
     pub written_label : label_of file ≡ l
     written_label = label_is file written_passed ∙ part

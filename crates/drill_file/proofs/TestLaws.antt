@@ -4,54 +4,47 @@ use mathlib.Core.Path.{◌≡◌, refl, sym, ap, ◌∙◌}
 use mathlib.Core.Bool.{Bool, true, false, not, true≢false}
 use mathlib.Core.List.{List, [], ◌∷◌}
 use native.Mathlib.Omega.{arith}
-use borrow.Author.Tests.{ltb-false, eqb-true, not-false, le-ltb, eq-eqb}
-use lib.Dec.{eqb, ltb}
 use lib.ListN.{length, get_or}
+use Rattle.std.proofs.lemmas.Bool.{ltb-false, le-ltb, leb-true, le-leb, eqb-true, eq-eqb, not-false, not_from_true, and_parts, and_from, or_parts, or_from}
 use Rattle.base.specs.Choice.{when◌then◌else◌}
 use Rattle.base.specs.Numbers.{sizes_right}
-use Rattle.base.proofs.Choices.{on_true, on_false, by_test, both_false, passed}
+use Rattle.base.proofs.Choices.{on_false, by_test, passed}
 use Rattle.base.proofs.SizeLaws.{sizes_mean, sizes_hold}
 use Rattle.base.proofs.DepartmentLaws.{each_mean, each_hold}
 use Rattle.drill_file.specs.Claims.{Sized, Version, Printable, Labelled, Departed, Recorded, Passed, FileTurned, gives_1, gives_2, gives_3, gives_4, gives_22, gives_5, accepts}
 use Rattle.drill_file.specs.DrillFile.{stated_size, version_of, boxes_of, stations_of, label_length, label_part, label_end, departments_part, records_start, after_header, outside, any_byte, wrong_size, unknown_version, wrong_version, wrong_floor, wrong_byte, wrong_length, wrong_label, wrong_departments, wrong_run, wrong_records, file_refusal}
 
-size_means : (s : List ℕ) → wrong_size s ≡ false → Sized s
-unfolding wrong_size
-size_means s e =
-    let a = both_false _ _ e in
-    let b = both_false _ _ a.1 in
-    record {
-      least = ltb-false (length s) 6 a.0;
-      most = ltb-false 32822 (length s) b.0;
-      stated = eqb-true (stated_size s) (length s - 2) (not-false _ b.1);
-    }
-
-size_holds : (s : List ℕ) → Sized s → wrong_size s ≡ false
-unfolding wrong_size
-size_holds s z =
-    sym (on_false _ (le-ltb (length s) 6 z.least)
-    (on_false _ (le-ltb 32822 (length s) z.most) (ap not (sym (eq-eqb (stated_size s) (length s - 2) z.stated)))))
-
 module _ (low high : ℕ) where
   outside_means : (b : ℕ) → outside low high b ≡ false → (low ≤ b) × (b ≤ high)
   unfolding outside
-  outside_means b e = let a = both_false _ _ e in (ltb-false b low a.0, ltb-false high b a.1)
+  outside_means b e = let a = and_parts _ _ (not-false _ e) in (leb-true low b a.0, leb-true b high a.1)
 
   outside_holds : (b : ℕ) → (low ≤ b) × (b ≤ high) → outside low high b ≡ false
   unfolding outside
-  outside_holds b p = sym (on_false _ (le-ltb b low p.0) (sym (le-ltb high b p.1)))
+  outside_holds b p = not_from_true _ (and_from _ _ (le-leb low b p.0) (le-leb b high p.1))
 
   bytes_mean : (l : List ℕ) → any_byte (outside low high) l ≡ false → (i : ℕ) → i < length l → (low ≤ get_or l i 0) × (get_or l i 0 ≤ high)
   unfolding any_byte
   bytes_mean [] e i h = absurd (omega arith)
-  bytes_mean (b ∷ l) e zero h = outside_means b (both_false _ _ e).0
-  bytes_mean (b ∷ l) e (suc i) h = bytes_mean l (both_false _ _ e).1 i (omega arith)
+  bytes_mean (b ∷ l) e zero h = outside_means b (or_parts _ _ e).0
+  bytes_mean (b ∷ l) e (suc i) h = bytes_mean l (or_parts _ _ e).1 i (omega arith)
 
   bytes_hold : (l : List ℕ) → ((i : ℕ) → i < length l → (low ≤ get_or l i 0) × (get_or l i 0 ≤ high)) → any_byte (outside low high) l ≡ false
   unfolding any_byte
   bytes_hold [] h = refl
-  bytes_hold (b ∷ l) h =
-      sym (on_false _ (outside_holds b (h 0 (omega arith))) (sym (bytes_hold l (λ i k. h (suc i) (omega arith)))))
+  bytes_hold (b ∷ l) h = or_from _ _ (outside_holds b (h 0 (omega arith))) (bytes_hold l (λ i k. h (suc i) (omega arith)))
+
+size_means : (s : List ℕ) → wrong_size s ≡ false → Sized s
+unfolding wrong_size
+size_means s e =
+    let a = or_parts _ _ e in
+    let b = outside_means 6 32822 (length s) a.0 in
+    record { least = b.0; most = b.1; stated = eqb-true (stated_size s) (length s - 2) (not-false _ a.1) }
+
+size_holds : (s : List ℕ) → Sized s → wrong_size s ≡ false
+unfolding wrong_size
+size_holds s z =
+    or_from _ _ (outside_holds 6 32822 (length s) (z.least, z.most)) (not_from_true _ (eq-eqb (stated_size s) (length s - 2) z.stated))
 
 pub version_means : (v : ℕ) → unknown_version v ≡ false → Version v
 unfolding unknown_version
@@ -71,47 +64,43 @@ letters_hold = bytes_hold 33 126
 
 pub length_means : (k : ℕ) → wrong_length k ≡ false → (1 ≤ k) × (k ≤ 32)
 unfolding wrong_length
-length_means k e = let a = both_false _ _ e in (ltb-false k 1 a.0, ltb-false 32 k a.1)
+length_means = outside_means 1 32
 
 pub length_holds : (k : ℕ) → (1 ≤ k) × (k ≤ 32) → wrong_length k ≡ false
 unfolding wrong_length
-length_holds k h = sym (on_false _ (le-ltb k 1 h.0) (sym (le-ltb 32 k h.1)))
+length_holds = outside_holds 1 32
 
 label_means : (s : List ℕ) → wrong_label s ≡ false → Labelled s
 unfolding wrong_label
 label_means s e =
-    let a = both_false _ _ e in
-    let b = both_false _ _ a.1 in
-    let l = length_means (label_length s) a.0 in
-    record { some = l.0; few = l.1; within = ltb-false (length s) (label_end s) b.0; printable = letters_mean (label_part s) b.1 }
+    let a = or_parts _ _ e in
+    let b = or_parts _ _ a.0 in
+    let l = length_means (label_length s) b.0 in
+    record { some = l.0; few = l.1; within = ltb-false (length s) (label_end s) b.1; printable = letters_mean (label_part s) a.1 }
 
 label_holds : (s : List ℕ) → Labelled s → wrong_label s ≡ false
 unfolding wrong_label
 label_holds s l =
-    sym (on_false _ (length_holds (label_length s) (l.some, l.few))
-    (on_false _ (le-ltb (length s) (label_end s) l.within) (sym (letters_hold (label_part s) l.printable))))
+    or_from _ _ (or_from _ _ (length_holds (label_length s) (l.some, l.few)) (le-ltb (length s) (label_end s) l.within))
+    (letters_hold (label_part s) l.printable)
 
 departments_mean : (s : List ℕ) → wrong_departments s ≡ false → Departed s
 unfolding wrong_departments
 departments_mean s e =
-    let a = both_false _ _ e in
+    let a = or_parts _ _ e in
     record { within = ltb-false (length s) (records_start s) a.0; each = each_mean (departments_part s) a.1 }
 
 departments_hold : (s : List ℕ) → Departed s → wrong_departments s ≡ false
 unfolding wrong_departments
-departments_hold s d =
-    sym (on_false _ (le-ltb (length s) (records_start s) d.within)
-    (sym (each_hold (departments_part s) d.each)))
+departments_hold s d = or_from _ _ (le-ltb (length s) (records_start s) d.within) (each_hold (departments_part s) d.each)
 
 pub run_means : (k : ℕ) → wrong_run k ≡ false → (k % 8 ≡ 0) × (k / 8 ≤ 4096)
 unfolding wrong_run
-run_means k =
-    by_test (λ (t : Bool). t ≡ false → (k % 8 ≡ 0) × (k / 8 ≤ 4096)) (eqb (k % 8) 0) (ltb 4096 (k / 8)) true
-    (λ t e. (eqb-true (k % 8) 0 t, ltb-false 4096 (k / 8) e)) (λ _ e. absurd (true≢false e))
+run_means k e = let a = or_parts _ _ e in (eqb-true (k % 8) 0 (not-false _ a.0), ltb-false 4096 (k / 8) a.1)
 
 pub run_holds : (k : ℕ) → (k % 8 ≡ 0) × (k / 8 ≤ 4096) → wrong_run k ≡ false
 unfolding wrong_run
-run_holds k h = sym (on_true _ (eq-eqb (k % 8) 0 h.0) (sym (le-ltb 4096 (k / 8) h.1)))
+run_holds k h = or_from _ _ (not_from_true _ (eq-eqb (k % 8) 0 h.0)) (le-ltb 4096 (k / 8) h.1)
 
 records_mean : (s : List ℕ) → wrong_records s ≡ false → Recorded s
 unfolding wrong_records

@@ -1,24 +1,28 @@
 -- What the writer's functions go by: the parts that pass its tests, how long their file is, and the file as four runs of bytes.
 use Prim.Native.Nat.{ℕ, zero, suc, ◌+◌, ◌-◌, ◌*◌, ◌/◌, ◌%◌, ◌≤◌, ◌<◌}
 use native.Mathlib.Omega.{arith}
-use native.Mathlib.Nat.{sub-zero}
-use mathlib.Core.Path.{◌≡◌, refl, sym, ap, ◌∙◌}
+use mathlib.Core.Path.{◌≡◌, refl, sym, ap, ap₂, ◌∙◌}
 use mathlib.Core.Bool.{Bool, true, false, not}
 use mathlib.Core.List.{List, [], ◌∷◌, ◌++◌, flatten, append_assoc}
-use borrow.Author.Tests.{lt-ltb, le-ltb, le-leb, ltb-true, ltb-false, eqb-false, eq-eqb, ne_eqb, not-true, not-false}
-use lib.Dec.{eqb, ltb}
-use lib.ListN.{length, get_or, drop, set, length-append}
-use lib.Seq.{take_all, sets, sets-eq, length-sets}
+use borrow.Author.Tests.{le-ltb, ltb-true, ltb-false, eqb-false, eq-eqb, ne_eqb, not-true, not-false}
+use lib.Dec.{ltb}
+use lib.ListN.{length, get_or, drop, length-append, length-drop}
+use lib.Seq.{take_all, drop-drop}
+use Rattle.std.specs.Simd.{first_chunks}
+use Rattle.std.proofs.lemmas.Bool.{or_parts, or_from}
+use Rattle.std.proofs.lemmas.List.Folds.{list_any_at}
 use Rattle.base.specs.Bytes.{bytes16, bytes_put}
 use Rattle.base.specs.Choice.{when◌then◌else◌}
 use Rattle.base.specs.Numbers.{sizes_right}
 use Rattle.base.specs.Claims.{Sizes}
-use Rattle.base.specs.Records.{record_at, records_from, records_in}
-use Rattle.base.proofs.Cases.{by_cases}
+use Rattle.base.specs.Records.{records_from, records_in}
+use Rattle.base.specs.Refusals.{number}
+use Rattle.base.specs.declared.Refusal.{Refusal}
 use Rattle.base.proofs.DepartmentLaws.{departments_mean, departments_hold}
-use Rattle.base.proofs.Choices.{on_true, on_false, by_test, chosen, both_false, passed}
-use Rattle.base.proofs.PutLaws.{three_put}
-use Rattle.base.proofs.RecordLaws.{record_length, records_length, record_nth, records_joined}
+use Rattle.base.proofs.Choices.{on_true, on_false, by_test, passed}
+use Rattle.base.proofs.PutLaws.{put_fits, two_put, three_put}
+use Rattle.base.proofs.RefusalLaws.{number_above}
+use Rattle.base.proofs.RecordLaws.{record_length, record_whole, records_length, record_nth, records_joined}
 use Rattle.base.proofs.SizeLaws.{sizes_mean, sizes_hold}
 use Rattle.base.proofs.WritingLaws.{no_size, buffer_kept, size_is, buffer_is}
 use Rattle.drill_file.specs.Claims.{Printable, Department, PartsRight, WithoutKind6, Writable, WriteTurned, gives_2, gives_3, gives_4, gives_22, gives_5, gives_7, gives_18, accepts}
@@ -56,13 +60,6 @@ module _ (p : DrillParts) (h : length p.run % 8 ≡ 0) where
       let stated : suc (suc (suc (suc (length rest)))) ≡ front_size p + length p.run - 2 = omega (arith, length-append p.label (p.departments ++ p.run), length-append p.departments p.run) in
       rw (run_joined p.run h, append_assoc p.label p.departments p.run, ← stated)
 
--- the test of the room, which adds no lengths up
-pub room_left : (room front bytes : ℕ) → front ≤ room → ltb (room - front) bytes ≡ ltb room (front + bytes)
-room_left room front bytes h =
-    by_cases (ltb (room - front) bytes)
-    (λ t. let l = ltb-true (room - front) bytes t in t ∙ sym (lt-ltb room (front + bytes) (omega arith)))
-    (λ t. let g = ltb-false (room - front) bytes t in t ∙ sym (le-ltb room (front + bytes) (omega arith)))
-
 -- the length of the file by those of its parts
 pub short_said : (room : ℕ) (p : DrillParts) → wrong_run (length p.run) ≡ false → ltb room (length (file_from p)) ≡ ltb room (front_size p + length p.run)
 short_said room p w = ap (ltb room) (file_size p (run_means (length p.run) w).0)
@@ -75,58 +72,34 @@ module _ (kind : ℕ) where
   kinds_mean : (rs : List (List ℕ)) → has_kind kind rs ≡ false → (i : ℕ) → i < length rs → ¬ Kind rs i
   unfolding has_kind
   kinds_mean [] e i h = absurd (omega arith)
-  kinds_mean (r ∷ rs) e zero h = eqb-false _ _ (both_false _ _ e).0
-  kinds_mean (r ∷ rs) e (suc i) h = kinds_mean rs (both_false _ _ e).1 i (omega arith)
+  kinds_mean (r ∷ rs) e zero h = eqb-false _ _ (or_parts _ _ e).0
+  kinds_mean (r ∷ rs) e (suc i) h = kinds_mean rs (or_parts _ _ e).1 i (omega arith)
 
   kinds_hold : (rs : List (List ℕ)) → ((i : ℕ) → i < length rs → ¬ Kind rs i) → has_kind kind rs ≡ false
   unfolding has_kind
   kinds_hold [] n = refl
-  kinds_hold (r ∷ rs) n = sym (on_false _ (ne_eqb _ _ (n 0 (omega arith))) (sym (kinds_hold rs (λ i h. n (suc i) (omega arith)))))
+  kinds_hold (r ∷ rs) n = or_from _ _ (ne_eqb _ _ (n 0 (omega arith))) (kinds_hold rs (λ i h. n (suc i) (omega arith)))
 
   kind_holds : (rs : List (List ℕ)) (i : ℕ) → i < length rs → Kind rs i → has_kind kind rs ≡ true
   unfolding has_kind
-  kind_holds [] i h e = absurd (omega arith)
-  kind_holds (r ∷ rs) zero h e = sym (on_true _ (eq-eqb _ _ e) refl)
-  kind_holds (r ∷ rs) (suc i) h e = by_test (λ (x : Bool). x ≡ true) (eqb (get_or r 0 0) kind) _ _ (λ _. refl) (λ _. kind_holds rs i (omega arith) e)
+  kind_holds rs i h e = list_any_at _ rs i [] h (eq-eqb _ _ e)
 
-  -- the records of a list of bytes from the first on are all of them
-  pub kind_starts : (s : List ℕ) → has_kind kind (records_from (length s / 8 - 0) s (8 * 0)) ≡ has_kind kind (records_in s)
-  kind_starts s = rw sub-zero
+-- the whole records of a run, as std cuts it, are those of the bytes
+whole_records : (k : ℕ) (s : List ℕ) (p : ℕ) → p + 8 * k ≤ length s → first_chunks 8 k (drop p s) ≡ records_from k s p
+unfolding records_from
+whole_records zero s p h = refl
+whole_records (suc k) s p h = ap₂ ◌∷◌ (sym (record_whole s p (omega arith))) (rw (drop-drop 8 p s) (whole_records k s (p + 8) (omega arith)))
 
-  -- the records of a list of bytes from the k-th on: the k-th is of the kind, or those behind it tell, or there is none left
-  module _ (s : List ℕ) (k : ℕ) where
-    abbrev count : ℕ
-    count = length s / 8
-
-    abbrev Rest : Type 0
-    Rest = has_kind kind (records_from (count - k) s (8 * k)) ≡ has_kind kind (records_in s)
-
-    one_more : k < count → records_from (count - k) s (8 * k) ≡ record_at s (8 * k) ∷ records_from (count - (k + 1)) s (8 * (k + 1))
-    unfolding records_from
-    one_more h =
-        let e : count - k ≡ suc (count - (k + 1)) = omega arith in
-        let q : 8 * (k + 1) ≡ 8 * k + 8 = omega arith in
-        rw (e, q)
-
-    pub kind_found : Rest → k < count → eqb (get_or s (8 * k) 0) kind ≡ true → true ≡ has_kind kind (records_in s)
-    unfolding has_kind record_at
-    kind_found rest h e = on_true _ e refl ∙ ap (has_kind kind) (sym (one_more h)) ∙ rest
-
-    pub kind_passed : Rest → k < count → eqb (get_or s (8 * k) 0) kind ≡ false → has_kind kind (records_from (count - (k + 1)) s (8 * (k + 1))) ≡ has_kind kind (records_in s)
-    unfolding has_kind record_at
-    kind_passed rest h e = on_false _ e refl ∙ ap (has_kind kind) (sym (one_more h)) ∙ rest
-
-    pub kind_none : Rest → count ≤ k → false ≡ has_kind kind (records_in s)
-    unfolding has_kind records_from
-    kind_none rest h = let e : count - k ≡ 0 = omega arith in sym (ap (λ (j : ℕ). has_kind kind (records_from j s (8 * k))) e) ∙ rest
+pub records_are_whole : (s : List ℕ) → first_chunks 8 (length s / 8) s ≡ records_in s
+records_are_whole s = whole_records (length s / 8) s 0 (omega arith)
 
 text_means : (label : List ℕ) → wrong_text label ≡ false → ((1 ≤ length label) × (length label ≤ 32)) × ((i : ℕ) → i < length label → Printable (get_or label i 0))
 unfolding wrong_text
-text_means label e = let a = both_false _ _ e in (length_means (length label) a.0, letters_mean label a.1)
+text_means label e = let a = or_parts _ _ e in (length_means (length label) a.0, letters_mean label a.1)
 
 text_holds : (label : List ℕ) → (1 ≤ length label) × (length label ≤ 32) → ((i : ℕ) → i < length label → Printable (get_or label i 0)) → wrong_text label ≡ false
 unfolding wrong_text
-text_holds label h p = sym (on_false _ (length_holds (length label) h) (sym (letters_hold label p)))
+text_holds label h p = or_from _ _ (length_holds (length label) h) (letters_hold label p)
 
 given_means : (version m : ℕ) (ds : List ℕ) → wrong_given version m ds ≡ false → (length ds ≡ departments_due version m) × ((i : ℕ) → i < length ds → Department (get_or ds i 0))
 unfolding wrong_given
@@ -207,54 +180,43 @@ module _ (room : ℕ) (p : DrillParts) where
       choose t {x} {y} = by_test (WriteTurned room p) t x y
 
   -- such parts are short
-  pub short_label : Writable room p → length p.label ≤ 32
-  short_label w = w.parts.labelled.1
-
-  pub short_departments : Writable room p → length p.departments ≤ 16
-  short_departments w = omega (arith, w.parts.due, due_most p.version p.stations, w.parts.stations.1)
-
-  pub short_run : Writable room p → length p.run ≤ 32768
-  short_run w =
+  pub parts_short : write_refusal room p ≡ 0 → (length p.label ≤ 32) × (length p.departments ≤ 16) × (length p.run ≤ 32768)
+  parts_short z =
+      let w = unrefused z in
       let few = rw (records_length (length p.run / 8) p.run 0) at w.parts.few in
-      omega (arith, w.whole)
+      (w.parts.labelled.1, omega (arith, w.parts.due, due_most p.version p.stations, w.parts.stations.1), omega (arith, w.whole))
 
--- stores one run behind the other are the stores of both
-sets_behind : (b : List ℕ) (i : ℕ) (x y : List ℕ) → sets (sets b i x) (i + length x) y ≡ sets b i (x ++ y)
-sets_behind b i [] y = ap (λ (k : ℕ). sets b k y) (omega arith)
-sets_behind b i (v ∷ x) y = ap (λ (k : ℕ). sets (sets (set b i v) (suc i) x) k y) (omega arith) ∙ sets_behind (set b i v) (suc i) x y
+-- what is said and left where they are refused
+module _ (b : List ℕ) (p : DrillParts) (r : Refusal) (e : number r ≡ write_refusal (length b) p) where
+  refuses : ¬ (write_refusal (length b) p ≡ 0)
+  refuses z = number_above r (e ∙ z)
 
-put_sets : (b : List ℕ) (i : ℕ) (x : List ℕ) → i + length x ≤ length b → bytes_put b i x ≡ sets b i x
-unfolding bytes_put
-put_sets b i x h = chosen _ (le-leb _ _ h) refl ∙ sym (sets-eq x b i h)
+  pub refused_size : written_size (length b) p ≡ 0
+  unfolding written_size
+  refused_size = no_size _ (file_from p) b refuses
 
--- so bytes put behind bytes are both put at once
-puts_joined : (b : List ℕ) (i : ℕ) (x y : List ℕ) → i + length x + length y ≤ length b → bytes_put (bytes_put b i x) (i + length x) y ≡ bytes_put b i (x ++ y)
-puts_joined b i x y h =
-    rw (put_sets b i x (omega arith)) (put_sets (sets b i x) (i + length x) y (rw length-sets h) ∙ sets_behind b i x y ∙ sym (put_sets b i (x ++ y) (rw length-append (omega arith))))
+  pub refused_buffer : written_buffer b p ≡ b
+  unfolding written_buffer
+  refused_buffer = buffer_kept _ (file_from p) b refuses
 
--- what is said and left, by the refusal k
-module _ (b : List ℕ) (p : DrillParts) (k : ℕ) (e : k ≡ write_refusal (length b) p) where
-  pub refused_said : (k ≡ 0 → ⊥) → (k ≡ write_refusal (length b) p) × ((0 ≡ written_size (length b) p) × (b ≡ written_buffer b p))
-  unfolding written_size written_buffer
-  refused_said f = let r = rw e at f in (e, (sym (no_size _ (file_from p) b r), sym (buffer_kept _ (file_from p) b r)))
-
-  pub written_said : k ≡ 0 → (first b₁ b₂ b₃ b₄ : List ℕ)
+-- and where nothing is refused
+module _ (b : List ℕ) (p : DrillParts) (z : write_refusal (length b) p ≡ 0) where
+  pub written_said : (first b₁ b₂ b₃ b₄ : List ℕ)
       → first ≡ first_bytes p
       → b₁ ≡ bytes_put b 0 first
       → b₂ ≡ bytes_put b₁ 6 p.label
       → b₃ ≡ bytes_put b₂ (6 + length p.label) p.departments
       → b₄ ≡ bytes_put b₃ (front_size p) p.run
-      → (k ≡ write_refusal (length b) p) × ((front_size p + length p.run ≡ written_size (length b) p) × (b₄ ≡ written_buffer b p))
+      → (front_size p + length p.run ≡ written_size (length b) p) × (b₄ ≡ written_buffer b p)
   unfolding written_size written_buffer
-  written_said z first b₁ b₂ b₃ b₄ f g₁ g₂ g₃ g₄ =
-      let none = sym e ∙ z in
-      let w = unrefused (length b) p none in
+  written_said first b₁ b₂ b₃ b₄ f g₁ g₂ g₃ g₄ =
+      let w = unrefused (length b) p z in
       let size = file_size p w.whole in
       let six : length first ≡ 6 = ap length f in
-      let one : length (bytes_put b 0 first) ≡ length b = ap length (put_sets b 0 first (omega (arith, w.fits))) ∙ length-sets b 0 first in
-      let joined = puts_joined (bytes_put b 0 first) 6 p.label p.departments (omega (arith, w.fits)) in
+      let one : length (bytes_put b 0 first) ≡ length b = rw (put_fits b 0 first (omega (arith, w.fits))) (simp (length-append, length-drop) (omega (arith, w.fits))) in
+      let joined = two_put (bytes_put b 0 first) 6 p.label p.departments (omega (arith, w.fits)) in
       let front = length-append p.label p.departments in
       let seam : 6 + (length p.label + length p.departments) ≡ front_size p = omega arith in
       let runs = rw (six, front, seam) at (three_put b first (p.label ++ p.departments) p.run (omega (arith, w.fits))) in
       let file = ap (λ (h : List ℕ). h ++ (p.label ++ p.departments) ++ p.run) f ∙ file_runs p w.whole in
-      (e, (sym (size_is _ (file_from p) b none ∙ size), rw (buffer_is _ (file_from p) b none, g₄, g₃, g₂, g₁, joined, size) (runs ∙ ap (λ (s : List ℕ). s ++ drop (front_size p + length p.run) b) file)))
+      (sym (size_is _ (file_from p) b z ∙ size), rw (buffer_is _ (file_from p) b z, g₄, g₃, g₂, g₁, joined, size) (runs ∙ ap (λ (s : List ℕ). s ++ drop (front_size p + length p.run) b) file))

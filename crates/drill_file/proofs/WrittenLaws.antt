@@ -4,6 +4,7 @@ use mathlib.Core.Path.{◌≡◌, refl, sym, ap, ◌∙◌}
 use mathlib.Core.List.{List, [], flatten}
 use borrow.Author.Tests.{lt-ltb}
 use lib.ListN.{length, get_or, drop}
+use Rattle.std.specs.Prelude.{Ok}
 use Rattle.base.specs.Bytes.{Bytes}
 use Rattle.base.specs.Records.{records_in}
 use Rattle.base.proofs.Choices.{on_true}
@@ -13,7 +14,6 @@ use Rattle.drill_file.specs.Claims.{PartsRight, WithoutKind6, parts_of, file_in,
 use Rattle.drill_file.specs.DrillFile.{version_of, boxes_of, stations_of, label_of, departments_of, records_start, file_refusal, header_of, records_of}
 use Rattle.drill_file.specs.Layout.{body_of, file_of}
 use Rattle.drill_file.specs.Writer.{DrillParts, file_from, write_refusal, written_size, written_buffer}
-use Rattle.drill_file.specs.declared.Header.TheVariants.{Accepted}
 use Rattle.drill_file.proofs.LayoutLaws.{rest_records, rest_whole, accepted_rest, accepted_parts, accepted_exactly, written_version, written_passed, written_accepted, written_label, written_departments, written_records}
 use Rattle.drill_file.proofs.WriterLaws.{run_joined, file_size, unrefused, refused_kind, refused_short, refused_none}
 
@@ -49,11 +49,11 @@ module _ (p : DrillParts) (f : PartsRight p) where
   unfolding file_from
   from_passed = written_passed p.version p.boxes p.stations p.label p.departments (records_in p.run) f
 
-  from_header : header_of (file_from p) ≡ Accepted p.boxes p.stations (6 + length p.label + length p.departments) (length p.run / 8)
+  from_header : header_of (file_from p) ≡ Ok (record { n = p.boxes; m = p.stations; start = 6 + length p.label + length p.departments; count = length p.run / 8 })
   unfolding file_from
   from_header =
       written_accepted p.version p.boxes p.stations p.label p.departments (records_in p.run) f
-      ∙ ap (Accepted p.boxes p.stations (6 + length p.label + length p.departments)) (records_length (length p.run / 8) p.run 0)
+      ∙ ap (λ (k : ℕ). Ok (record { n = p.boxes; m = p.stations; start = 6 + length p.label + length p.departments; count = k })) (records_length (length p.run / 8) p.run 0)
 
   from_label : label_of (file_from p) ≡ p.label
   unfolding file_from

@@ -1,15 +1,16 @@
 -- What is claimed of a file that is read, of one that is laid out from its parts, and of the writer. The proofs are `file_claims` and
 -- `writer_claims` in proofs/Claims.
-use Rattle.std.specs.Prelude.{ℕ, ◌+◌, ◌-◌, ◌*◌, ◌/◌, ◌%◌, ◌≤◌, ◌<◌, ◌≡◌, true, false, length, get_or, take, drop}
+use Rattle.std.specs.Prelude.{ℕ, ◌+◌, ◌-◌, ◌*◌, ◌/◌, ◌%◌, ◌≤◌, ◌<◌, ◌≡◌, true, false, length, get_or, take, drop, Ok}
 use mathlib.Core.List.{List, [], ◌∷◌, ◌++◌, flatten}
 use Rattle.base.specs.Bytes.{Bytes, bytes16}
 use Rattle.base.specs.Records.{records_from, records_in}
 use Rattle.base.specs.Numbers.{sizes_right}
 use Rattle.base.specs.Claims.{Sizes}
-use Rattle.drill_file.specs.DrillFile.{stated_size, unknown_version, wrong_run, version_of, boxes_of, stations_of, label_length, label_part, label_end, departments_due, departments_part, records_start, after_header, record_count, file_refusal, header_of, header_refusal, header_values, file_values, label_of, departments_of, records_of}
+use Rattle.base.specs.Refusals.{number_in}
+use Rattle.drill_file.specs.DrillFile.{stated_size, unknown_version, wrong_run, version_of, boxes_of, stations_of, label_length, label_part, label_end, departments_due, departments_part, records_start, after_header, record_count, file_refusal, header_of, header_values, file_values, label_of, departments_of, records_of}
 use Rattle.drill_file.specs.Layout.{file_of}
 use Rattle.drill_file.specs.Writer.{DrillParts, parts_given, file_from, wrong_text, wrong_given, has_kind, write_refusal, written_size, written_buffer}
-use Rattle.drill_file.specs.declared.Header.TheVariants.{Accepted}
+use Rattle.drill_file.specs.declared.Header.{Header}
 
 -- refusal 1; wish 6 of document 02: "refusal 1's limit is 32,822 bytes"
 pub record Sized (s : List ℕ) : Type 0 where
@@ -104,14 +105,15 @@ pub record FileClaims : Type 0 where
   pub accepted : (s : List ℕ) → Passed s → file_refusal s ≡ 0
   pub turned : (s : List ℕ) → FileTurned s (file_refusal s)
   -- the header's answer gives this number, and these values, 0 where it is refused
-  pub number : (s : List ℕ) → header_refusal (header_of s) ≡ file_refusal s
+  pub number : (s : List ℕ) → number_in (header_of s) ≡ file_refusal s
   pub given : (s : List ℕ) → header_values (header_of s) ≡ file_values s
   pub no_values_lem : (s : List ℕ) → ¬ (file_refusal s ≡ 0) → file_values s ≡ record { boxes = 0; stations = 0; start = 0; count = 0 }
-  pub values : (s : List ℕ) (n m start count : ℕ) → header_of s ≡ Accepted n m start count → Values s n m start count
+  pub values : (s : List ℕ) (h : Header) → header_of s ≡ Ok h → Values s h.n h.m h.start h.count
   -- an accepted file is exactly its parts, in the documented layout
-  pub layout : (s : List ℕ) → Bytes s → (n m start count : ℕ) → header_of s ≡ Accepted n m start count → LaidOut s n m start count
+  pub layout : (s : List ℕ) → Bytes s → (h : Header) → header_of s ≡ Ok h → LaidOut s h.n h.m h.start h.count
   -- parts that a file may have, laid out, are read back
-  pub reads : (version n m : ℕ) (l ds : List ℕ) (rs : List (List ℕ)) → FileParts version n m l ds rs → header_of (file_of version n m l ds rs) ≡ Accepted n m (6 + length l + length ds) (length rs)
+  pub reads : (version n m : ℕ) (l ds : List ℕ) (rs : List (List ℕ)) → FileParts version n m l ds rs
+      → header_of (file_of version n m l ds rs) ≡ Ok (record { n = n; m = m; start = 6 + length l + length ds; count = length rs })
   pub version : (version n m : ℕ) (l ds : List ℕ) (rs : List (List ℕ)) → version_of (file_of version n m l ds rs) ≡ version
   pub label : (version n m : ℕ) (l ds : List ℕ) (rs : List (List ℕ)) → FileParts version n m l ds rs → label_of (file_of version n m l ds rs) ≡ l
   pub departments : (version n m : ℕ) (l ds : List ℕ) (rs : List (List ℕ)) → FileParts version n m l ds rs → departments_of (file_of version n m l ds rs) ≡ ds
@@ -181,7 +183,7 @@ pub record Untouched (buffer : List ℕ) (p : DrillParts) : Type 0 where
 -- departments too
 pub record ReadBack (s : List ℕ) (p : DrillParts) : Type 0 where
   pub accepted : file_refusal s ≡ 0
-  pub header : header_of s ≡ Accepted p.boxes p.stations (6 + length p.label + length p.departments) (length p.run / 8)
+  pub header : header_of s ≡ Ok (record { n = p.boxes; m = p.stations; start = 6 + length p.label + length p.departments; count = length p.run / 8 })
   pub parts : parts_of s ≡ p
   pub records : records_of s ≡ records_in p.run
 

@@ -1,13 +1,15 @@
 -- Document 01, "The drill file" and the refusals 1 to 5, with the departments of document 02, wish 6, and refusal 22. A file is the list of
 -- its bytes; past its end a byte reads 0.
-use Rattle.std.specs.Prelude.{ℕ, ◌+◌, ◌-◌, ◌/◌, ◌%◌, Bool, true, false, not, List, [], ◌∷◌, eqb, ltb, length, get_or, take, drop}
+use Rattle.std.specs.Prelude.{ℕ, ◌+◌, ◌-◌, ◌/◌, ◌%◌, Bool, not, ◌&&◌, ◌||◌, if◌then◌else◌, List, [], eqb, leb, ltb, length, get_or, take, drop, Result, Ok, Err}
+use Rattle.std.specs.List.{list_any}
 use Rattle.base.specs.Choice.{when◌then◌else◌}
 use Rattle.base.specs.Numbers.{sizes_right}
 use Rattle.base.specs.Departments.{not_departments}
 use Rattle.base.specs.Bytes.{word16}
 use Rattle.base.specs.Records.{records_from}
+use Rattle.base.specs.declared.Refusal.{Refusal}
+use Rattle.base.specs.Refusals.{named}
 use Rattle.drill_file.specs.declared.Header.{Header}
-use Rattle.drill_file.specs.declared.Header.TheVariants.{Refused, Accepted}
 
 -- "Two bytes L, big-endian, the number of bytes after them"
 abbrev pub stated_size : (s : List ℕ) → ℕ
@@ -37,7 +39,7 @@ label_end s = 6 + label_length s
 -- Wish 6 of document 02: "Version 2 of the file has, after the label, one byte a station". How many a file has by its version and m: m
 -- in version 2, none in version 1
 unfoldable pub departments_due : (version m : ℕ) → ℕ
-departments_due version m = when eqb version 2 then m else 0
+departments_due version m = if eqb version 2 then m else 0
 
 abbrev pub department_count : (s : List ℕ) → ℕ
 department_count s = departments_due (version_of s) (stations_of s)
@@ -58,19 +60,15 @@ record_count s = after_header s / 8
 
 -- a byte that is not low to high, and whether a list has a wrong byte
 unfoldable pub outside : (low high b : ℕ) → Bool
-outside low high b = when ltb b low then true else ltb high b
+outside low high b = not (leb low b && leb b high)
 
 unfoldable pub any_byte : (wrong : ℕ → Bool) (bs : List ℕ) → Bool
-any_byte wrong [] = false
-any_byte wrong (b ∷ bs) = when wrong b then true else any_byte wrong bs
+any_byte wrong bs = list_any wrong bs
 
 -- 1. "The file has fewer than 6 or more than 32,806 bytes, or L is not its size less 2." Wish 6 of document 02: "refusal 1's limit is 32,822
 -- bytes"
 unfoldable pub wrong_size : (s : List ℕ) → Bool
-wrong_size s =
-    when ltb (length s) 6 then true
-    else when ltb 32822 (length s) then true
-    else not (eqb (stated_size s) (length s - 2))
+wrong_size s = outside 6 32822 (length s) || not (eqb (stated_size s) (length s - 2))
 
 -- 2. "The version byte is not 1." Wish 6 of document 02: "refusal 2 passes both", 1 and 2
 unfoldable pub unknown_version : (version : ℕ) → Bool
@@ -88,22 +86,19 @@ unfoldable pub wrong_byte : (b : ℕ) → Bool
 wrong_byte b = outside 33 126 b
 
 unfoldable pub wrong_length : (k : ℕ) → Bool
-wrong_length k = when ltb k 1 then true else ltb 32 k
+wrong_length k = outside 1 32 k
 
 unfoldable pub wrong_label : (s : List ℕ) → Bool
-wrong_label s =
-    when wrong_length (label_length s) then true
-    else when ltb (length s) (label_end s) then true
-    else any_byte wrong_byte (label_part s)
+wrong_label s = wrong_length (label_length s) || ltb (length s) (label_end s) || any_byte wrong_byte (label_part s)
 
 -- Wish 6 of document 02: "22, after 4, when a department byte is missing or not 0 or 1"
 unfoldable pub wrong_departments : (s : List ℕ) → Bool
-wrong_departments s = when ltb (length s) (records_start s) then true else not_departments (departments_part s)
+wrong_departments s = ltb (length s) (records_start s) || not_departments (departments_part s)
 
 -- 5. "What follows the label is not whole records, or is more than 4,096 of them." By wish 6 of document 02 the departments of version 2
 -- are not among what follows. Of that many bytes:
 unfoldable pub wrong_run : (k : ℕ) → Bool
-wrong_run k = when eqb (k % 8) 0 then ltb 4096 (k / 8) else true
+wrong_run k = not (eqb (k % 8) 0) || ltb 4096 (k / 8)
 
 unfoldable pub wrong_records : (s : List ℕ) → Bool
 wrong_records s = wrong_run (after_header s)
@@ -120,17 +115,13 @@ file_refusal s =
     else 0
 
 -- what the header's answer is: the refusal, or n, m, where the records start and how many there are
-unfoldable pub header_of : (s : List ℕ) → Header
+unfoldable pub header_of : (s : List ℕ) → Result Header Refusal
 header_of s =
-    when eqb (file_refusal s) 0 then Accepted (boxes_of s) (stations_of s) (records_start s) (record_count s)
-    else Refused (file_refusal s)
+    when eqb (file_refusal s) 0 then Ok (record { n = boxes_of s; m = stations_of s; start = records_start s; count = record_count s })
+    else Err (named (file_refusal s))
 
--- "a definition gives this paper's number and values for each of its cases". The number: the refusal, 0 where the file is accepted
-abbrev pub header_refusal : (h : Header) → ℕ
-header_refusal (Refused k) = k
-header_refusal (Accepted n m start count) = 0
-
--- The values: "n; m", where the "records of 8 bytes" start and how many there are
+-- "a definition gives this paper's number and values for each of its cases". The number is `number_in`. The values: "n; m", where the
+-- "records of 8 bytes" start and how many there are
 pub record HeaderValues : Type 0 where
   pub boxes : ℕ
   pub stations : ℕ
@@ -142,9 +133,9 @@ abbrev pub no_values : HeaderValues
 no_values = record { boxes = 0; stations = 0; start = 0; count = 0 }
 
 -- those of each case of the answer
-abbrev pub header_values : (h : Header) → HeaderValues
-header_values (Refused k) = no_values
-header_values (Accepted n m start count) = record { boxes = n; stations = m; start = start; count = count }
+abbrev pub header_values : (h : Result Header Refusal) → HeaderValues
+header_values (Err r) = no_values
+header_values (Ok h) = record { boxes = h.n; stations = h.m; start = h.start; count = h.count }
 
 -- those of a file
 unfoldable pub file_values : (s : List ℕ) → HeaderValues

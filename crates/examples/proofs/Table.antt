@@ -14,7 +14,7 @@ use Rattle.floor.specs.Sound.{stations_below, share_sound, sound_of}
 use Rattle.floor.specs.Floors.{department_from, stations_told, new_floor_of}
 use Rattle.commands.specs.Commands.{all_zero, spared, command_of}
 use Rattle.floor.specs.Free.{next_row}
-use Rattle.attempts.specs.Rows.{row_department, new_row, used_after, better, best_of, revision_from, revision_of, issued}
+use Rattle.attempts.specs.Rows.{row_department, new_row, used_after, better, higher, best_of, revision_from, revision_of, issued}
 use Rattle.floor.specs.Refusals.{begin_refusal, serve_refusal, deliver_refusal, stop_refusal, leave_refusal}
 use Rattle.floor.specs.Effects.{delivered_on}
 use Rattle.floor.specs.Step.{play_of, apply_of, step_of}
@@ -28,5 +28,5 @@ use Rattle.examples.specs.WorkedRuns.{said_from, answers_from, lines_from}
 use Rattle.examples.specs.Table.{Claim}
 
 pub examples_hold : Claim
-unfolding when◌then◌else◌ sizes_right departments.departments_wrong departments.not_departments departments.not_department department_from stations_told row_department share_sound departments_due outside any_byte unknown_version wrong_departments departments_of told_from record_at records_from bit set_bit count_below ones ones_in outranks rmw_read rmw_write takes standing waiting_below at_quorum still_yes all_yes read_verdict write_verdict stations_below sound_of new_floor_of all_zero spared command_of new_row used_after next_row better best_of revision_from revision_of issued begin_refusal serve_refusal deliver_refusal stop_refusal leave_refusal delivered_on play_of apply_of step_of state_at stops_by ran_from played_on wrong_size wrong_version wrong_floor wrong_byte wrong_length wrong_label wrong_run wrong_records file_refusal label_of played_of last_rank round_above answering_from lowest exchange exchanges exchanges_of front_refusal solo_refusal solo_of said_from answers_from lines_from
+unfolding when◌then◌else◌ sizes_right departments.departments_wrong departments.not_departments departments.not_department department_from stations_told row_department share_sound departments_due outside any_byte unknown_version wrong_departments departments_of told_from record_at records_from bit set_bit count_below ones ones_in outranks rmw_read rmw_write takes standing waiting_below at_quorum still_yes all_yes read_verdict write_verdict stations_below sound_of new_floor_of all_zero spared command_of new_row used_after next_row better higher best_of revision_from revision_of issued begin_refusal serve_refusal deliver_refusal stop_refusal leave_refusal delivered_on play_of apply_of step_of state_at stops_by ran_from played_on wrong_size wrong_version wrong_floor wrong_byte wrong_length wrong_label wrong_run wrong_records file_refusal label_of played_of last_rank round_above answering_from lowest exchange exchanges exchanges_of front_refusal solo_refusal solo_of said_from answers_from lines_from
 examples_hold = (refl, (refl, (refl, (refl, (refl, (refl, (refl, (refl, (refl, (refl, (refl, (refl, (refl, (refl, (refl, (refl, (refl, (refl, (refl, tt)))))))))))))))))))

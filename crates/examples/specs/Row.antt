@@ -1,10 +1,9 @@
 -- A row of the table of document 01's lettered examples, and the claim on all rows.
-use Rattle.std.specs.Prelude.{ℕ, ◌≡◌, Bool, List, [], ◌∷◌}
+use Rattle.std.specs.Prelude.{ℕ, ◌≡◌, Bool, List, [], ◌∷◌, Option}
 use Rattle.suits.specs.declared.Suit.{Suit}
 use Rattle.register.specs.declared.Register.{Register}
 use Rattle.register.specs.declared.ReadDone.{ReadDone}
 use Rattle.register.specs.declared.WriteDone.{WriteDone}
-use Rattle.attempts.specs.declared.Decision.{Decision}
 use Rattle.attempts.specs.declared.State.{State}
 use Rattle.commands.specs.declared.Outcome.{Outcome}
 
@@ -27,7 +26,7 @@ pub record StationLine : Type 0 where
   pub number : ℕ
   pub state : State
   pub rank : ℕ
-  pub decided : Decision
+  pub decided : Option Suit
 
 -- what it prints: label, n and m; the station lines in order; "last `end`, accepted steps, refusal (0 if none)"
 pub record Printed : Type 0 where

@@ -1,12 +1,11 @@
 -- Document 01, "Floors worked through": the lettered examples, one row or more for each; F as wish 2 of document 02 has it.
-use Rattle.std.specs.Prelude.{ℕ, true, false, List, [], ◌∷◌}
+use Rattle.std.specs.Prelude.{ℕ, true, false, List, [], ◌∷◌, Some, None}
 use Rattle.suits.specs.Suits.{single}
 use Rattle.base.specs.Numbers.{quorum, rank_of}
+use Rattle.base.specs.Refusals.{named}
 use Rattle.register.specs.Register.{rmw_read, rmw_write}
 use Rattle.register.specs.declared.Register.{Register}
-use Rattle.register.specs.declared.ReadAnswer.TheVariants.{Outranked}
 use Rattle.requests.specs.declared.Phase.TheVariants.{Read}
-use Rattle.attempts.specs.declared.Decision.TheVariants.{Revision}
 use Rattle.attempts.specs.declared.State.TheVariants as state
 use Rattle.commands.specs.declared.Outcome.{Outcome}
 use Rattle.commands.specs.declared.Outcome.TheVariants.{Begun, Served, Received, Aborted, WriteIssued, Decided, Refused}
@@ -35,7 +34,7 @@ luff =
       label = 0x6C ∷ 0x75 ∷ 0x66 ∷ 0x66 ∷ [];
       boxes = 1;
       stations = 1;
-      lines = record { number = 0; state = state.Decided 0; rank = 16; decided = Revision (single 7) } ∷ [];
+      lines = record { number = 0; state = state.Decided 0; rank = 16; decided = Some (single 7) } ∷ [];
       accepted = 5;
       refusal = 0;
     }
@@ -57,7 +56,7 @@ table =
     -- "E: box (16, 16, 7), write 16 of 9: not taken."
     ∷ row E (wrote (rmw_write (box 16 16 7) 16 (single 9))) (wrote (record { register = box 16 16 7; taken = false }))
     -- "F: box (33, 16, 7), read 18: .. unchanged"; wish 2 of document 02: "example F now answers outranked"
-    ∷ row F (read (rmw_read (box 33 16 7) 18)) (read (record { register = box 33 16 7; answer = Outranked }))
+    ∷ row F (read (rmw_read (box 33 16 7) 18)) (read (record { register = box 33 16 7; answer = None }))
     -- "G: n = 3, answers (0, 0) and (16, 7) to rank 33: it writes 7."
     ∷ row G (gathered_by 3 run_g (Deliver Read 1 1) 1) (gathered 33 ((0, single 0) ∷ (16, single 7) ∷ []) (WriteIssued (single 7)))
     -- "H: n = 3, two answers (0, 0) from two boxes: a majority."
@@ -70,7 +69,7 @@ table =
     -- "J: solo on a new floor of 5: 13 steps; with 2 stopped, 13; with 3 stopped, refusal 15."
     ∷ row J (solo_after 5 []) (drove 13 (Decided (single 7)))
     ∷ row J (solo_after 5 (Stop 0 ∷ Stop 3 ∷ [])) (drove 13 (Decided (single 7)))
-    ∷ row J (solo_after 5 (Stop 0 ∷ Stop 3 ∷ Stop 4 ∷ [])) (drove 0 (Refused 15))
+    ∷ row J (solo_after 5 (Stop 0 ∷ Stop 3 ∷ Stop 4 ∷ [])) (drove 0 (Refused (named 15)))
     -- "K: the drill file above."
     ∷ row K (printed (printed_of file_k)) (printed luff)
     ∷ []

@@ -3,6 +3,7 @@ use Rattle.std.specs.Prelude.{ℕ, zero, suc, ◌+◌, Bool, List, [], ◌∷◌
 use Rattle.suits.specs.Suits.{single}
 use Rattle.suits.specs.declared.Suit.{Suit}
 use Rattle.base.specs.Choice.{when◌then◌else◌}
+use Rattle.base.specs.Refusals.{number_if}
 use Rattle.register.specs.declared.Register.{Register}
 use Rattle.requests.specs.Requests.{slot_at, heard_from}
 use Rattle.requests.specs.declared.Phase.TheVariants.{Read, Write}
@@ -82,7 +83,7 @@ printed_of file =
       stations = p.floor.m;
       lines = lines_from p.floor.m 0 p.floor;
       accepted = p.accepted;
-      refusal = p.refusal;
+      refusal = number_if p.refusal;
     }
 
 -- G: attempt 0 (rank 16, 7) has written at box 1; attempt 1 (rank 33) reads at box 0, where nothing was written, and at box 1

@@ -1,43 +1,35 @@
 -- What the two calls answer and leave, case by case. The cases exclude each other and leave none out: 16 stands before 17, and each is
 -- given for no other cause. After a call that is not refused the record holds the register that the routine by value gives.
 use mathlib.Core.Path.{◌≡◌, refl, sym, ◌∙◌, ap}
-use mathlib.Core.Logic.{◌⊎◌, inl, inr, ⊎_map}
+use mathlib.Core.Logic.{◌⊎◌, ⊎_elim}
 use mathlib.Core.Bool.{Bool, true, false, not, ◌||◌, false≢true}
 use mathlib.Core.List.{List}
 use Prim.Native.Nat.{ℕ, ◌<◌, ◌^◌}
 use native.Mathlib.Omega.{arith}
 use lib.Dec.{eqb}
 use lib.ListN.{length, replicate}
+use Rattle.std.proofs.Common.{Option, Some, None}
 use borrow.Author.Tests.{eq-eqb, ne_eqb}
-use Rattle.suits.specs.declared.Suit.{Suit}
+use Rattle.std.proofs.lemmas.Bool.{or_from, or_left, or_right}
 use Rattle.suits.specs.Suits.{single}
 use Rattle.base.specs.Bytes.{Bytes}
 use Rattle.base.proofs.Choices.{on_true, on_false, by_test}
 use Rattle.register.specs.Register.{is_held, number_in, rank_in, value_in, rmw_read, takes, rmw_write}
 use Rattle.register.proofs.RegisterLaws.{ReadCase, outranked, answered, read_case, write_refused, write_answers}
 use Rattle.register.specs.declared.Register.{Register}
-use Rattle.register.specs.declared.ReadAnswer.{ReadAnswer}
-use Rattle.register.specs.declared.ReadAnswer.TheVariants.{Held, Outranked}
+use Rattle.register.specs.declared.Answer.{Answer}
 use Rattle.register.specs.declared.ReadDone.{ReadDone}
 use Rattle.register.specs.declared.WriteDone.{WriteDone}
 use Rattle.firmware.specs.Firmware.{encode, decode, reply_of, read_answer, record_after_read, reply_after_read, write_answer, record_after_write}
 use Rattle.firmware.specs.Claims.{Fits32}
 use Rattle.firmware.proofs.BoxRecordLaws.{decode_encode, encode_bytes, decode_fits}
 
--- the tests of the refusals: a length that is this number, or another; of two tests one holds, or none
+-- the tests of the refusals: a length that is this number, or another
 pub this : (x k : ℕ) → x ≡ k → not (eqb x k) ≡ false
 this x k e = ap not (eq-eqb x k e)
 
 pub other : (x k : ℕ) → (x ≡ k → ⊥) → not (eqb x k) ≡ true
 other x k n = ap not (ne_eqb x k n)
-
-either : (t u : Bool) → (t ≡ true) ⊎ (u ≡ true) → (t || u) ≡ true
-either true u h = refl
-either false u (inl h) = absurd (false≢true h)
-either false u (inr h) = h
-
-neither : (t u : Bool) → t ≡ false → u ≡ false → (t || u) ≡ false
-neither t u e f = rw (e, f)
 
 -- the routine keeps a register's fields within 32 bits
 module _ (x : Register) (r : ℕ) (f : Fits32 x) (g : r < 2 ^ 32) where
@@ -54,23 +46,23 @@ module _ (x : Register) (r : ℕ) (f : Fits32 x) (g : r < 2 ^ 32) where
       by_test (λ (d : WriteDone). Fits32 d.register) (takes x r) _ _ (λ _. record { read = f.read; write = g; value = k }) (λ _. f)
 
 -- the numbers of a read's answer
-held_number : (a : ReadAnswer) → is_held a ≡ true → 0 ≡ number_in a
-held_number (Held w v) t = refl
-held_number Outranked t = absurd (false≢true t)
+held_number : (a : Option Answer) → is_held a ≡ true → 0 ≡ number_in a
+held_number (Some x) t = refl
+held_number None t = absurd (false≢true t)
 
-outranked_number : (a : ReadAnswer) → is_held a ≡ false → 100 ≡ number_in a
-outranked_number (Held w v) t = absurd (false≢true (sym t))
-outranked_number Outranked t = refl
+outranked_number : (a : Option Answer) → is_held a ≡ false → 100 ≡ number_in a
+outranked_number (Some x) t = absurd (false≢true (sym t))
+outranked_number None t = refl
 
 -- ---- a read of record s with rank r and reply p
 module _ (s : List ℕ) (r : ℕ) (p : List ℕ) where
   pub read_16 : (length s ≡ 12 → ⊥) ⊎ (length p ≡ 8 → ⊥) → 16 ≡ read_answer s r p
   unfolding read_answer
-  read_16 h = on_true _ (either _ _ (⊎_map (other _ 12) (other _ 8) h)) refl
+  read_16 h = on_true _ (⊎_elim (λ n. or_left _ _ (other _ 12 n)) (λ n. or_right _ _ (other _ 8 n)) h) refl
 
   module _ (hs : length s ≡ 12) (hp : length p ≡ 8) where
     lengths : (not (eqb (length s) 12) || not (eqb (length p) 8)) ≡ false
-    lengths = neither _ _ (this _ 12 hs) (this _ 8 hp)
+    lengths = or_from _ _ (this _ 12 hs) (this _ 8 hp)
 
     pub read_17 : r ≡ 0 → 17 ≡ read_answer s r p
     unfolding read_answer
@@ -117,27 +109,6 @@ module _ (s : List ℕ) (r : ℕ) (p : List ℕ) where
   module _ (hs : length s ≡ 12) (hp : length p ≡ 8) (n : r ≡ 0 → ⊥) where
     abbrev done : ReadDone
     done = rmw_read (decode s) r
-
-    -- as the code comes to it, from what was loaded and what the routine made of it
-    module _ (x : Register) (d : ReadDone) (ex : x ≡ decode s) (ed : d ≡ rmw_read x r) where
-      made_read : d ≡ done
-      made_read = ed ∙ ap (λ (y : Register). rmw_read y r) ex
-
-      answer_is : (a : ReadAnswer) → d.answer ≡ a → done.answer ≡ a
-      answer_is a q = ap (λ (y : ReadDone). y.answer) (sym made_read) ∙ q
-
-      pub read_ends_100 : d.answer ≡ Outranked → (p' : List ℕ) → p' ≡ reply_of 0 0 → (100 ≡ read_answer s r p) × ((s ≡ record_after_read s r p) × (p' ≡ reply_after_read s r p))
-      unfolding reply_of
-      read_ends_100 q p' ep =
-          let e = read_100 hs hp n (ap is_held (answer_is Outranked q)) in
-          (e, (read_kept 100 refl e, ep ∙ read_zeroed e))
-
-      pub read_ends_0 : (w : ℕ) (v : Suit) → d.answer ≡ Held w v → (s' p' : List ℕ) → s' ≡ encode d.register → p' ≡ reply_of w v.r0
-          → (0 ≡ read_answer s r p) × ((s' ≡ record_after_read s r p) × (p' ≡ reply_after_read s r p))
-      read_ends_0 w v q s' p' es ep =
-          let a = answer_is (Held w v) q in
-          let e = read_0 hs hp n (ap is_held a) in
-          (e, (es ∙ ap (λ (y : ReadDone). encode y.register) made_read ∙ read_record e, ep ∙ ap (λ (y : ReadAnswer). reply_of (rank_in y) (value_in y).r0) (sym a) ∙ read_filled e))
 
     -- the record then holds the register that the routine by value gives, outranked or not, and the reply the answer's rank and value
     record Called (d : ReadDone) : Type 0 where
@@ -205,20 +176,6 @@ module _ (s : List ℕ) (r v : ℕ) where
     pub write_100 : (rmw_write (decode s) r (single v)).taken ≡ false → 100 ≡ write_answer s r v
     unfolding write_answer
     write_100 t = on_false _ (this _ 12 h) (on_false _ (ne_eqb r 0 n) (on_false _ t refl))
-
-    -- as the code comes to it, from what was loaded and what the routine made of it
-    module _ (x : Register) (d : WriteDone) (ex : x ≡ decode s) (ed : d ≡ rmw_write x r (single v)) where
-      made : d ≡ rmw_write (decode s) r (single v)
-      made = ed ∙ ap (λ (y : Register). rmw_write y r (single v)) ex
-
-      pub write_ends_100 : d.taken ≡ false → (100 ≡ write_answer s r v) × (s ≡ record_after_write s r v)
-      write_ends_100 t =
-          let e = write_100 (ap (λ (y : WriteDone). y.taken) (sym made) ∙ t) in (e, write_kept 100 refl e)
-
-      pub write_ends_0 : d.taken ≡ true → (s' : List ℕ) → s' ≡ encode d.register → (0 ≡ write_answer s r v) × (s' ≡ record_after_write s r v)
-      write_ends_0 t s' es =
-          let e = write_0 (ap (λ (y : WriteDone). y.taken) (sym made) ∙ t) in
-          (e, es ∙ ap (λ (y : WriteDone). encode y.register) made ∙ write_record e)
 
     -- the record decodes to the register that the routine by value gives, taken or not
     pub write_routine : decode (record_after_write s r v) ≡ (rmw_write (decode s) r (single v)).register

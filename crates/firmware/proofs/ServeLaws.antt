@@ -2,12 +2,16 @@
 use Prim.Native.Nat.{ℕ}
 use native.Mathlib.Omega.{arith}
 use mathlib.Core.Path.{◌≡◌, refl, sym, ap, ◌∙◌}
-use mathlib.Core.Bool.{true, false, not}
+use mathlib.Core.Bool.{false}
 use mathlib.Core.List.{List}
 use lib.Dec.{eqb, ltb}
 use lib.ListN.{length, drop}
-use borrow.Author.Tests.{eqb-true, eqb-false, eq-eqb, ne_eqb, not-false}
+use borrow.Author.Tests.{eqb-true, eqb-false, eq-eqb, ne_eqb}
+use Rattle.std.specs.Prelude.{Result, Ok, Err}
 use Rattle.suits.specs.Suits.{single}
+use Rattle.base.specs.Refusals.{number}
+use Rattle.base.specs.declared.Refusal.{Refusal}
+use Rattle.base.specs.declared.Refusal.TheVariants.{Length}
 use Rattle.base.specs.Bytes.{Bytes}
 use Rattle.base.specs.Choice.{when◌then◌else◌}
 use Rattle.base.proofs.Cases.{by_cases}
@@ -23,115 +27,56 @@ use Rattle.frames.specs.Reader.{parsed}
 use Rattle.frames.specs.Writer.{write_refusal, written_size, written_buffer}
 use Rattle.frames.specs.declared.Message.{Message}
 use Rattle.frames.specs.declared.Message.TheVariants.{ReadRequest, WriteRequest, ReadAnswer, Outranked, Taken, NotTaken}
-use Rattle.frames.specs.declared.Parsed.{Parsed}
-use Rattle.frames.specs.declared.Parsed.TheVariants.{Refused, Accepted}
 use Rattle.frames.proofs.FrameLaws.{frame_back, write_means}
 use Rattle.firmware.specs.Claims.{IsRequest, Kept, Answered, replied, noted}
 use Rattle.firmware.specs.Firmware.{encode, decode, read_answer, record_after_read, reply_after_read, write_answer, record_after_write}
-use Rattle.firmware.specs.Serve.{answer_to_read, answer_to_write, read_served, write_served, served_of, served_in, serving, answer_in, record_in, buffer_in, size_in, serve_answer, record_after_serve, buffer_after_serve, size_after_serve}
-use Rattle.firmware.specs.declared.Serving.{Serving}
-use Rattle.firmware.specs.declared.Serving.TheVariants.{TurnedAway, Served}
+use Rattle.firmware.specs.Serve.{answer_to_read, answer_to_write, loaded, served_by, served_of, serving, answer_in, record_in, buffer_in, size_in, serve_answer, record_after_serve, buffer_after_serve, size_after_serve}
+use Rattle.firmware.specs.declared.serve.Served.{Served}
 use Rattle.firmware.proofs.BoxRecordLaws.{encode_decode, reply_words}
 use Rattle.firmware.proofs.CallLaws.{this, other, read_0, read_100, read_kept, read_record, read_reply, write_0, write_100, write_kept, write_record}
 
--- ---- the routine on a record
-module _ (s : List ℕ) (r : ℕ) where
-  pub read_turned : (length s ≡ 12 → ⊥) → TurnedAway 16 ≡ read_served s r
-  unfolding read_served
-  read_turned n = on_true _ (other (length s) 12 n) refl
+-- ---- the register of a record, and of nothing else
+module _ (s : List ℕ) where
+  none_loaded : (length s ≡ 12 → ⊥) → loaded s ≡ Err Length
+  unfolding loaded
+  none_loaded n = sym (on_true _ (other (length s) 12 n) refl)
 
-  module _ (h : length s ≡ 12) (x : Register) (d : ReadDone) (ex : x ≡ decode s) (ed : d ≡ rmw_read x r) where
-    read_made : d ≡ rmw_read (decode s) r
-    read_made = ed ∙ ap (λ (y : Register). rmw_read y r) ex
+  one_loaded : length s ≡ 12 → loaded s ≡ Ok (decode s)
+  unfolding loaded
+  one_loaded h = sym (on_false _ (this (length s) 12 h) refl)
 
-    read_done : (m : Message) → m ≡ answer_to_read d → Served d.register m ≡ read_served s r
-    unfolding read_served
-    read_done m e = on_false _ (this (length s) 12 h) (rw (e, read_made))
-
-    pub serves_held : is_held d.answer ≡ true → (w v : ℕ) → w ≡ rank_in d.answer → v ≡ (value_in d.answer).r0 → Served d.register (ReadAnswer w v) ≡ read_served s r
-    unfolding answer_to_read
-    serves_held t w v f g = read_done (ReadAnswer w v) (on_true _ t (rw (f, g)))
-
-    pub serves_outranked : is_held d.answer ≡ false → Served d.register Outranked ≡ read_served s r
-    unfolding answer_to_read
-    serves_outranked t = read_done Outranked (on_false _ t refl)
-
-  module _ (v : ℕ) where
-    pub write_turned : (length s ≡ 12 → ⊥) → TurnedAway 16 ≡ write_served s r v
-    unfolding write_served
-    write_turned n = on_true _ (other (length s) 12 n) refl
-
-    module _ (h : length s ≡ 12) (x : Register) (d : WriteDone) (ex : x ≡ decode s) (ed : d ≡ rmw_write x r (single v)) where
-      write_done : (m : Message) → m ≡ answer_to_write d → Served d.register m ≡ write_served s r v
-      unfolding write_served
-      write_done m e = on_false _ (this (length s) 12 h) (rw (e, ed ∙ ap (λ (y : Register). rmw_write y r (single v)) ex))
-
-      pub serves_taken : d.taken ≡ true → Served d.register Taken ≡ write_served s r v
-      unfolding answer_to_write
-      serves_taken t = write_done Taken (on_true _ t refl)
-
-      pub serves_not_taken : d.taken ≡ false → Served d.register NotTaken ≡ write_served s r v
-      unfolding answer_to_write
-      serves_not_taken t = write_done NotTaken (on_false _ t refl)
+  loaded_twelve : (x : Register) → loaded s ≡ Ok x → length s ≡ 12
+  loaded_twelve x e = by_cases (eqb (length s) 12) (λ t. eqb-true (length s) 12 t) (λ t. absurd (cc (none_loaded (eqb-false (length s) 12 t))))
 
 -- what was served was served on 12 bytes
-module _ (s : List ℕ) (after : Register) (o : Message) where
-  abbrev Twelve : Serving → Type 0
-  Twelve x = x ≡ Served after o → length s ≡ 12
+module _ (s : List ℕ) (y : Served) where
+  by_twelve : (routine : Register → Served) (x : Result Register Refusal) → loaded s ≡ x → served_by routine x ≡ Ok y → length s ≡ 12
+  by_twelve routine (Ok x) l e = loaded_twelve s x l
+  by_twelve routine (Err r) l e = absurd cc
 
-  none_served : (k : ℕ) → Twelve (TurnedAway k)
-  none_served k e = absurd (let z : ◌≡◌ {A = ℕ} 0 1 = cc in omega arith)
+  twelve : (m : Message) → served_of s m ≡ Ok y → length s ≡ 12
+  twelve (ReadRequest r) e = by_twelve _ (loaded s) refl e
+  twelve (WriteRequest r v) e = by_twelve _ (loaded s) refl e
+  twelve (ReadAnswer w v) e = absurd cc
+  twelve Outranked e = absurd cc
+  twelve Taken e = absurd cc
+  twelve NotTaken e = absurd cc
 
-  sized : (x : Serving) → not (eqb (length s) 12) ≡ false → Twelve x
-  sized x t e = eqb-true (length s) 12 (not-false _ t)
-
-  message_twelve : (m : Message) → Twelve (served_of s m)
-  unfolding read_served write_served
-  message_twelve (ReadRequest r) = by_test Twelve _ _ _ (λ _. none_served 16) (sized _)
-  message_twelve (WriteRequest r v) = by_test Twelve _ _ _ (λ _. none_served 16) (sized _)
-  message_twelve (ReadAnswer w v) = none_served 21
-  message_twelve Outranked = none_served 21
-  message_twelve Taken = none_served 21
-  message_twelve NotTaken = none_served 21
-
-  served_twelve : (p : Parsed) → Twelve (served_in s p)
-  served_twelve (Refused k) = none_served k
-  served_twelve (Accepted m) = message_twelve m
-
-pub twelve : (s input : List ℕ) (x : Serving) → x ≡ serving s input → (after : Register) (m : Message) → x ≡ Served after m → length s ≡ 12
-twelve s input x e after m f = served_twelve s after m (parsed input) (sym e ∙ f)
-
--- ---- the call: answer, record, buffer and size
-abbrev Ends : (s input b : List ℕ) (k : ℕ) (record' buffer' : List ℕ) (size : ℕ) → Type 0
-Ends s input b k record' buffer' size =
-    (k ≡ serve_answer s input (length b)) × ((record' ≡ record_after_serve s input (length b)) × ((buffer' ≡ buffer_after_serve s input b) × (size ≡ size_after_serve s input (length b))))
-
-module _ (s input b : List ℕ) (x : Serving) (e : x ≡ serving s input) where
-  pub ends_turned : (k : ℕ) → x ≡ TurnedAway k → Ends s input b k s b 0
-  unfolding serve_answer record_after_serve buffer_after_serve size_after_serve
-  ends_turned k f = rw (← e, f) (refl, (refl, (refl, refl)))
-
-  module _ (after : Register) (m : Message) (f : x ≡ Served after m) where
-    module _ (k size : ℕ) (b' : List ℕ) (r : k ≡ write_refusal (length b) m) (z : size ≡ written_size (length b) m) (l : b' ≡ written_buffer b m) where
-      pub ends_short : (k ≡ 0 → ⊥) → Ends s input b k s b' size
-      unfolding serve_answer record_after_serve buffer_after_serve size_after_serve
-      ends_short n = rw (← e, f) (r, (on_false _ (ne_eqb (write_refusal (length b) m) 0 (λ y. n (r ∙ y))) refl, (l, z)))
-
-      pub ends_served : k ≡ 0 → (s' : List ℕ) → s' ≡ encode after → Ends s input b 0 s' b' size
-      unfolding serve_answer record_after_serve buffer_after_serve size_after_serve
-      ends_served n s' g = rw (← e, f) (sym n ∙ r, (on_true _ (eq-eqb (write_refusal (length b) m) 0 (sym r ∙ n)) g, (l, z)))
+  -- so that the register is stored
+  pub stored : (m : Message) → served_of s m ≡ Ok y → (when eqb (length s) 12 then encode y.register else s) ≡ encode y.register
+  stored m e = sym (on_true _ (eq-eqb (length s) 12 (twelve m e)) refl)
 
 -- ---- which number turns a request away
 module _ (s input : List ℕ) (room : ℕ) where
-  pub says_unread : (k : ℕ) → parsed input ≡ Refused k → serve_answer s input room ≡ k
+  pub says_unread : (r : Refusal) → parsed input ≡ Err r → serve_answer s input room ≡ number r
   unfolding serve_answer
-  says_unread k e = rw e
+  says_unread r e = rw e
 
-  by_message : (m : Message) → parsed input ≡ Accepted m → (x : Serving) → served_of s m ≡ x → serve_answer s input room ≡ answer_in room x
+  by_message : (m : Message) → parsed input ≡ Ok m → (x : Result Served Refusal) → served_of s m ≡ x → serve_answer s input room ≡ answer_in room x
   unfolding serve_answer
   by_message m e x f = rw (e, f)
 
-  pub says_no_request : (m : Message) → parsed input ≡ Accepted m → ¬ IsRequest m → serve_answer s input room ≡ 21
+  pub says_no_request : (m : Message) → parsed input ≡ Ok m → ¬ IsRequest m → serve_answer s input room ≡ 21
   says_no_request (ReadRequest r) e n = absurd (n (omega arith))
   says_no_request (WriteRequest r v) e n = absurd (n (omega arith))
   says_no_request (ReadAnswer w v) e n = by_message _ e _ refl
@@ -139,16 +84,16 @@ module _ (s input : List ℕ) (room : ℕ) where
   says_no_request Taken e n = by_message _ e _ refl
   says_no_request NotTaken e n = by_message _ e _ refl
 
-  pub says_16 : (m : Message) → parsed input ≡ Accepted m → IsRequest m → ¬ (length s ≡ 12) → serve_answer s input room ≡ 16
-  says_16 (ReadRequest r) e n h = by_message _ e _ (sym (read_turned s r h))
-  says_16 (WriteRequest r v) e n h = by_message _ e _ (sym (write_turned s r v h))
+  pub says_16 : (m : Message) → parsed input ≡ Ok m → IsRequest m → ¬ (length s ≡ 12) → serve_answer s input room ≡ 16
+  says_16 (ReadRequest r) e n h = by_message _ e _ (ap (served_by _) (none_loaded s h))
+  says_16 (WriteRequest r v) e n h = by_message _ e _ (ap (served_by _) (none_loaded s h))
   says_16 (ReadAnswer w v) e n h = absurd (omega arith)
   says_16 Outranked e n h = absurd (omega arith)
   says_16 Taken e n h = absurd (omega arith)
   says_16 NotTaken e n h = absurd (omega arith)
 
 -- so a request that is not turned away is served on 12 bytes
-on_twelve : (s input : List ℕ) (room : ℕ) (m : Message) → parsed input ≡ Accepted m → IsRequest m → serve_answer s input room ≡ 0 → length s ≡ 12
+on_twelve : (s input : List ℕ) (room : ℕ) (m : Message) → parsed input ≡ Ok m → IsRequest m → serve_answer s input room ≡ 0 → length s ≡ 12
 on_twelve s input room m e q z =
     by_cases (eqb (length s) 12)
     (λ t. eqb-true (length s) 12 t)
@@ -167,48 +112,42 @@ room_alone : (room : ℕ) (m : Message) → wrong_message m ≡ false → write_
 unfolding write_refusal
 room_alone room m t = sym (on_false _ t refl)
 
--- ---- a request m that was read, and served: the register after it and the answer o
-module _ (s input : List ℕ) (m : Message) (e : parsed input ≡ Accepted m) (after : Register) (o : Message) (f : served_of s m ≡ Served after o) where
-  said_room : (room : ℕ) → wrong_message o ≡ false → serve_answer s input room ≡ (when ltb room (length (frame_of o)) then 18 else 0)
-  said_room room t = by_message s input room m e (Served after o) f ∙ room_alone room o t
+-- ---- a request m that was read, and served as y says
+module _ (s input : List ℕ) (m : Message) (e : parsed input ≡ Ok m) (y : Served) (f : served_of s m ≡ Ok y) where
+  said_room : (room : ℕ) → wrong_message y.answer ≡ false → serve_answer s input room ≡ (when ltb room (length (frame_of y.answer)) then 18 else 0)
+  said_room room t = by_message s input room m e (Ok y) f ∙ room_alone room y.answer t
 
-  said_answered : (b : List ℕ) → serve_answer s input (length b) ≡ 0 → Answered s input b after o
+  said_answered : (b : List ℕ) → serve_answer s input (length b) ≡ 0 → Answered s input b y.register y.answer
   unfolding record_after_serve buffer_after_serve size_after_serve written_size written_buffer
   said_answered b z =
-      let none = sym (by_message s input (length b) m e (Served after o) f) ∙ z in
+      let none = sym (by_message s input (length b) m e (Ok y) f) ∙ z in
       record {
-        leaves = rw (e, f) (sym (on_true _ (eq-eqb (write_refusal (length b) o) 0 none) refl));
-        size = rw (e, f) (size_is _ (frame_of o) b none);
-        frame = rw (e, f, buffer_is _ (frame_of o) b none) (frame_back o (drop (length (frame_of o)) b) (write_means (length b) o none).0);
+        leaves = rw (e, f) (sym (on_true _ (eq-eqb (write_refusal (length b) y.answer) 0 none) refl));
+        size = rw (e, f) (size_is _ (frame_of y.answer) b none);
+        frame = rw (e, f, buffer_is _ (frame_of y.answer) b none) (frame_back y.answer (drop (length (frame_of y.answer)) b) (write_means (length b) y.answer none).0);
       }
 
-module _ (s input : List ℕ) (r : ℕ) (e : parsed input ≡ Accepted (ReadRequest r)) where
-  read_on_twelve : length s ≡ 12 → read_served s r ≡ Served (rmw_read (decode s) r).register (answer_to_read (rmw_read (decode s) r))
-  read_on_twelve h = sym (read_done s r h (decode s) (rmw_read (decode s) r) refl refl _ refl)
-
+module _ (s input : List ℕ) (r : ℕ) (e : parsed input ≡ Ok (ReadRequest r)) where
   pub says_read_room : (room : ℕ) → length s ≡ 12 → serve_answer s input room ≡ (when ltb room (length (frame_of (answer_to_read (rmw_read (decode s) r)))) then 18 else 0)
-  says_read_room room h = said_room s input _ e _ _ (read_on_twelve h) room (read_right _)
+  says_read_room room h = said_room s input _ e _ (ap (served_by _) (one_loaded s h)) room (read_right _)
 
   pub serves_read : (b : List ℕ) → serve_answer s input (length b) ≡ 0 → Answered s input b (rmw_read (decode s) r).register (answer_to_read (rmw_read (decode s) r))
-  serves_read b z = said_answered s input _ e _ _ (read_on_twelve (on_twelve s input (length b) (ReadRequest r) e (omega arith) z)) b z
+  serves_read b z = said_answered s input _ e _ (ap (served_by _) (one_loaded s (on_twelve s input (length b) (ReadRequest r) e (omega arith) z))) b z
 
-module _ (s input : List ℕ) (r v : ℕ) (e : parsed input ≡ Accepted (WriteRequest r v)) where
-  write_on_twelve : length s ≡ 12 → write_served s r v ≡ Served (rmw_write (decode s) r (single v)).register (answer_to_write (rmw_write (decode s) r (single v)))
-  write_on_twelve h = sym (write_done s r v h (decode s) (rmw_write (decode s) r (single v)) refl refl _ refl)
-
+module _ (s input : List ℕ) (r v : ℕ) (e : parsed input ≡ Ok (WriteRequest r v)) where
   pub says_write_room : (room : ℕ) → length s ≡ 12 → serve_answer s input room ≡ (when ltb room (length (frame_of (answer_to_write (rmw_write (decode s) r (single v))))) then 18 else 0)
-  says_write_room room h = said_room s input _ e _ _ (write_on_twelve h) room (write_right _)
+  says_write_room room h = said_room s input _ e _ (ap (served_by _) (one_loaded s h)) room (write_right _)
 
   pub serves_write : (b : List ℕ) → serve_answer s input (length b) ≡ 0 → Answered s input b (rmw_write (decode s) r (single v)).register (answer_to_write (rmw_write (decode s) r (single v)))
-  serves_write b z = said_answered s input _ e _ _ (write_on_twelve (on_twelve s input (length b) (WriteRequest r v) e (omega arith) z)) b z
+  serves_write b z = said_answered s input _ e _ (ap (served_by _) (one_loaded s (on_twelve s input (length b) (WriteRequest r v) e (omega arith) z))) b z
 
 -- ---- turned away, nothing is changed
 module _ (s b : List ℕ) where
-  kept_by : (x : Serving) → ¬ (answer_in (length b) x ≡ 0) → (record_in s (length b) x ≡ s) × ((buffer_in b x ≡ b) × (size_in (length b) x ≡ 0))
+  kept_by : (x : Result Served Refusal) → ¬ (answer_in (length b) x ≡ 0) → (record_in s (length b) x ≡ s) × ((buffer_in b x ≡ b) × (size_in (length b) x ≡ 0))
   unfolding written_size written_buffer
-  kept_by (TurnedAway k) n = (refl, (refl, refl))
-  kept_by (Served after m) n =
-      (sym (on_false _ (ne_eqb (write_refusal (length b) m) 0 n) refl), (buffer_kept _ (frame_of m) b n, no_size _ (frame_of m) b n))
+  kept_by (Err r) n = (refl, (refl, refl))
+  kept_by (Ok y) n =
+      (sym (on_false _ (ne_eqb (write_refusal (length b) y.answer) 0 n) refl), (buffer_kept _ (frame_of y.answer) b n, no_size _ (frame_of y.answer) b n))
 
 pub turned_kept : (s input b : List ℕ) → ¬ (serve_answer s input (length b) ≡ 0) → Kept s input b
 unfolding serve_answer record_after_serve buffer_after_serve size_after_serve

@@ -7,74 +7,55 @@ use mathlib.Core.List.{List}
 use borrow.Author.Tests.{eqb-true, eqb-false}
 use lib.Dec.{eqb}
 use lib.ListN.{length, length-drop}
+use Rattle.std.specs.Prelude.{Result, Ok, Err}
+use Rattle.base.specs.Refusals.{number_in}
+use Rattle.base.specs.declared.Refusal.{Refusal}
+use Rattle.base.proofs.RefusalLaws.{number_above}
 use Rattle.base.proofs.Cases.{clash, by_cases}
 use Rattle.base.proofs.Choices.{on_true, by_test}
 use Rattle.frames.specs.Claims.{Wrong, read_of_0, write_of_0, WriteTurned}
 use Rattle.frames.specs.Claims as frame
-use Rattle.frames.specs.Messages.{kind_of, frame_of, wrong_message, fields_in}
-use Rattle.frames.specs.Reader.{end_of, checked, formed, parsed, refusal_in, kind_in, first_in, second_in, frame_refusal, behind_start, behind_of}
-use Rattle.frames.specs.Writer.{write_refusal, written_size, written_buffer}
+use Rattle.frames.specs.Messages.{kind_of, frame_of, wrong_message, fields_in, kind_numbered}
+use Rattle.frames.specs.Reader.{end_of, checked, formed_by, formed, parsed, frame_refusal, behind_start, behind_of}
+use Rattle.frames.specs.Writer.{write_refusal}
+use Rattle.frames.specs.declared.Kind.{Kind}
 use Rattle.frames.specs.declared.Message.{Message}
 use Rattle.frames.specs.declared.Message.TheVariants.{ReadRequest, WriteRequest, ReadAnswer, Outranked, Taken, NotTaken}
-use Rattle.frames.specs.declared.Parsed.{Parsed}
-use Rattle.frames.specs.declared.Parsed.TheVariants.{Refused, Accepted}
 use Rattle.frames.proofs.ReaderLaws.{behind_refused, start_refused, behind_accepted, start_accepted, ends_within}
-use Rattle.frames.proofs.MessageLaws.{frame_size}
-use Rattle.frames.proofs.FrameLaws.{checked_right, checked_wrong, write_turned, wrong_holds}
+use Rattle.frames.proofs.MessageLaws.{frame_size, checked_right, checked_wrong}
+use Rattle.frames.proofs.FrameLaws.{write_turned, wrong_holds}
 use Rattle.firmware.specs.Claims.{Sendable, FrameTurned, gives_21, gives_18, accepts}
-use Rattle.firmware.specs.Wire.{refusal_for, size_for, buffer_for}
+use Rattle.firmware.specs.Wire.{refusal_for}
 
--- the six numbers that the reader gives of an input
-abbrev Said : (s : List ℕ) (k kind first second rest left : ℕ) → Type 0
-Said s k kind first second rest left =
-    (k ≡ frame_refusal s) × ((kind ≡ kind_in (parsed s)) × ((first ≡ first_in (parsed s)) × ((second ≡ second_in (parsed s)) × ((rest ≡ behind_start s) × (left ≡ length (behind_of s))))))
+-- the part behind an accepted frame, and behind a refused input
+module _ (s : List ℕ) where
+  module _ (m : Message) (e : parsed s ≡ Ok m) where
+    accepted : frame_refusal s ≡ 0
+    accepted = ap number_in e
 
-module _ (s : List ℕ) (p : Parsed) (e : p ≡ parsed s) (k kind first second : ℕ) (r : k ≡ refusal_in p) (a : kind ≡ kind_in p) (b : first ≡ first_in p) (c : second ≡ second_in p) where
-  told : k ≡ frame_refusal s
-  told = r ∙ ap refusal_in e
+    pub within : end_of s ≤ length s
+    within = ends_within s accepted
 
-  pub said_refused : (k ≡ 0 → ⊥) → Said s k kind first second 0 0
-  said_refused f =
-      (told, (a ∙ ap kind_in e, (b ∙ ap first_in e, (c ∙ ap second_in e, (start_refused s k told f, ap length (behind_refused s k told f))))))
+    pub starts : end_of s ≡ behind_start s
+    starts = start_accepted s accepted
 
-  module _ (z : k ≡ 0) (end : ℕ) (g : end ≡ end_of s) where
-    pub said_within : end ≤ length s
-    said_within = rw g (ends_within s k told z)
+    pub left : length s - end_of s ≡ length (behind_of s)
+    left = sym (length-drop (end_of s) s) ∙ ap length (behind_accepted s accepted)
 
-    pub said_accepted : Said s 0 kind first second end (length s - end)
-    said_accepted = (
-      sym z ∙ told,
-      (
-        a ∙ ap kind_in e,
-        (
-          b ∙ ap first_in e,
-          (
-            c ∙ ap second_in e,
-            (
-              g ∙ start_accepted s k told z,
-              ap (λ (j : ℕ). length s - j) g ∙ sym (length-drop (end_of s) s) ∙ ap length (behind_accepted s k told z),
-            ),
-          ),
-        ),
-      ),
-    )
+  module _ (r : Refusal) (e : parsed s ≡ Err r) where
+    refused : ¬ (frame_refusal s ≡ 0)
+    refused z = number_above r (sym (ap number_in e) ∙ z)
 
--- what the writer gives of what the numbers made
-abbrev Left : (b : List ℕ) (given : Parsed) (k size : ℕ) (left : List ℕ) → Type 0
-Left b given k size left = (k ≡ refusal_for (length b) given) × ((size ≡ size_for (length b) given) × (left ≡ buffer_for b given))
+    pub no_start : 0 ≡ behind_start s
+    no_start = start_refused s refused
 
-module _ (b : List ℕ) (p given : Parsed) (e : p ≡ given) where
-  pub left_turned : (k : ℕ) → p ≡ Refused k → Left b given k 0 b
-  left_turned k f = rw (← e, f) (refl, (refl, refl))
-
-  pub left_passed : (m : Message) → p ≡ Accepted m → (k size : ℕ) (left : List ℕ) → k ≡ write_refusal (length b) m → size ≡ written_size (length b) m → left ≡ written_buffer b m
-      → Left b given k size left
-  left_passed m f k size left r s l = rw (← e, f) (r, (s, l))
+    pub none_left : 0 ≡ length (behind_of s)
+    none_left = ap length (behind_refused s refused)
 
 -- ---- the order of the writer's refusals, by the kind's number
 module _ (room kind first second : ℕ) where
-  abbrev Turned : Parsed → Type 0
-  Turned p = FrameTurned room kind first (refusal_for room p)
+  abbrev Turned : Result Kind Refusal → Type 0
+  Turned k = FrameTurned room kind first (refusal_for room (formed_by first second k))
 
   -- a message that is turned away is 21 for the writer too
   checked_said : (m : Message) → refusal_for room (checked m) ≡ write_refusal room m
@@ -91,7 +72,7 @@ module _ (room kind first second : ℕ) where
     pub means : Wrong m → (j ≤ 2) × (first ≡ 0)
     pub holds : (j ≤ 2) × (first ≡ 0) → Wrong m
 
-  of_kind : (j : ℕ) (m : Message) → Of j m → eqb kind j ≡ true → Turned (checked m)
+  of_kind : (j : ℕ) (m : Message) → Of j m → eqb kind j ≡ true → FrameTurned room kind first (refusal_for room (checked m))
   of_kind j m o t = rw (checked_said m) (go (write_turned room m))
     where
       same : kind ≡ j
@@ -130,7 +111,7 @@ module _ (room kind first second : ℕ) where
   }
 
   pub frame_turned : FrameTurned room kind first (refusal_for room (formed kind first second))
-  unfolding formed
+  unfolding kind_numbered
   frame_turned =
       by_test Turned (eqb kind 1) _ _ (of_kind 1 (ReadRequest first) (record { number = refl; known = omega arith; means = λ w. (omega arith, read_zero w); holds = λ z. zero_read z.1 })) (λ n₁.
       by_test Turned (eqb kind 2) _ _ (of_kind 2 (WriteRequest first second) (record { number = refl; known = omega arith; means = λ w. (omega arith, write_zero w); holds = λ z. zero_write z.1 })) (λ n₂.

@@ -1,6 +1,8 @@
 -- What is claimed of the calls for C. The proofs are `firmware_claims` and `serve_claims` in proofs/Claims.
-use Rattle.std.specs.Prelude.{ℕ, ◌+◌, ◌*◌, ◌≤◌, ◌<◌, ◌^◌, ◌≡◌, ◌⊎◌, true, false, List, eqb, ltb, length, drop, replicate}
+use Rattle.std.specs.Prelude.{ℕ, ◌+◌, ◌*◌, ◌≤◌, ◌<◌, ◌^◌, ◌≡◌, ◌⊎◌, true, false, List, eqb, ltb, length, drop, replicate, Ok, Err}
 use Rattle.suits.specs.Suits.{single}
+use Rattle.base.specs.Refusals.{number}
+use Rattle.base.specs.declared.Refusal.{Refusal}
 use Rattle.base.specs.Bytes.{Bytes, word_at}
 use Rattle.base.specs.Choice.{when◌then◌else◌}
 use Rattle.register.specs.Register.{is_held, rank_in, value_in, rmw_read, rmw_write}
@@ -10,7 +12,6 @@ use Rattle.frames.specs.Messages.{kind_of, frame_of, fields_in}
 use Rattle.frames.specs.Reader.{parsed, formed}
 use Rattle.frames.specs.declared.Message.{Message}
 use Rattle.frames.specs.declared.Message.TheVariants.{ReadRequest, WriteRequest, ReadAnswer, Outranked, Taken, NotTaken}
-use Rattle.frames.specs.declared.Parsed.TheVariants.{Refused, Accepted}
 use Rattle.firmware.specs.Firmware.{decode, encode, reply_of, read_answer, record_after_read, reply_after_read, write_answer, record_after_write}
 use Rattle.firmware.specs.Serve.{answer_to_read, answer_to_write, serve_answer, record_after_serve, buffer_after_serve, size_after_serve}
 use Rattle.firmware.specs.Wire.{refusal_for}
@@ -92,19 +93,19 @@ pub record ServeClaims : Type 0 where
   -- the writer of frames
   pub frame_turned : (room kind first second : ℕ) → FrameTurned room kind first (refusal_for room (formed kind first second))
   -- which number turns a request away: the reader's; 21 where the message is no request; 16; 18. The cases exclude each other and leave none out
-  pub unread : (s input : List ℕ) (room k : ℕ) → parsed input ≡ Refused k → serve_answer s input room ≡ k
-  pub no_request : (s input : List ℕ) (room : ℕ) (m : Message) → parsed input ≡ Accepted m → ¬ IsRequest m → serve_answer s input room ≡ 21
-  pub serve_16 : (s input : List ℕ) (room : ℕ) (m : Message) → parsed input ≡ Accepted m → IsRequest m → ¬ (length s ≡ 12) → serve_answer s input room ≡ 16
-  pub read_room : (s input : List ℕ) (room r : ℕ) → parsed input ≡ Accepted (ReadRequest r) → length s ≡ 12
+  pub unread : (s input : List ℕ) (room : ℕ) (r : Refusal) → parsed input ≡ Err r → serve_answer s input room ≡ number r
+  pub no_request : (s input : List ℕ) (room : ℕ) (m : Message) → parsed input ≡ Ok m → ¬ IsRequest m → serve_answer s input room ≡ 21
+  pub serve_16 : (s input : List ℕ) (room : ℕ) (m : Message) → parsed input ≡ Ok m → IsRequest m → ¬ (length s ≡ 12) → serve_answer s input room ≡ 16
+  pub read_room : (s input : List ℕ) (room r : ℕ) → parsed input ≡ Ok (ReadRequest r) → length s ≡ 12
       → serve_answer s input room ≡ (when ltb room (length (frame_of (answer_to_read (rmw_read (decode s) r)))) then 18 else 0)
-  pub write_room : (s input : List ℕ) (room r v : ℕ) → parsed input ≡ Accepted (WriteRequest r v) → length s ≡ 12
+  pub write_room : (s input : List ℕ) (room r v : ℕ) → parsed input ≡ Ok (WriteRequest r v) → length s ≡ 12
       → serve_answer s input room ≡ (when ltb room (length (frame_of (answer_to_write (rmw_write (decode s) r (single v))))) then 18 else 0)
   -- turned away, nothing is changed
   pub kept : (s input buffer : List ℕ) → ¬ (serve_answer s input (length buffer) ≡ 0) → Kept s input buffer
   -- served, it is the box routine's doing
-  pub read : (s input buffer : List ℕ) (r : ℕ) → parsed input ≡ Accepted (ReadRequest r) → serve_answer s input (length buffer) ≡ 0
+  pub read : (s input buffer : List ℕ) (r : ℕ) → parsed input ≡ Ok (ReadRequest r) → serve_answer s input (length buffer) ≡ 0
       → Answered s input buffer (rmw_read (decode s) r).register (answer_to_read (rmw_read (decode s) r))
-  pub write : (s input buffer : List ℕ) (r v : ℕ) → parsed input ≡ Accepted (WriteRequest r v) → serve_answer s input (length buffer) ≡ 0
+  pub write : (s input buffer : List ℕ) (r v : ℕ) → parsed input ≡ Ok (WriteRequest r v) → serve_answer s input (length buffer) ≡ 0
       → Answered s input buffer (rmw_write (decode s) r (single v)).register (answer_to_write (rmw_write (decode s) r (single v)))
   -- which is that of the box calls
   pub as_read : (s : List ℕ) (r : ℕ) (p : List ℕ) → Bytes s → length s ≡ 12 → length p ≡ 8 → ¬ (r ≡ 0)

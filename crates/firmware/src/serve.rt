@@ -1,67 +1,101 @@
 // Serving a request: reader, box routine and writer one after the other, as box firmware in C calls them.
-ghost use Rattle.std.specs.Prelude.{◌≡◌, length};
-ghost use Rattle.firmware.specs.Serve.{read_served, write_served, served_of, served_in, serve_answer, record_after_serve, buffer_after_serve, size_after_serve};
+ghost use Rattle.std.specs.Prelude.{◌≡◌, length, eqb};
+ghost use Rattle.base.specs.Choice.{when◌then◌else◌};
+ghost use Rattle.base.specs.Refusals.{number_in, size_in};
+ghost use Rattle.firmware.specs.Firmware.{encode};
+ghost use Rattle.firmware.specs.Serve.{loaded, read_done, write_done, served_of, serve_answer, record_after_serve, buffer_after_serve, size_after_serve};
 
-use crate::Serving;
-use frames::{Message, Parsed};
-use register::{Register, held, rank_in, rmw_read, rmw_write, value_in};
-use suits::Suit;
+use base::Refusal;
+use frames::Message;
+use register::{ReadDone, Register, WriteDone};
 
-// A read and a write of a record, with the answer as a message.
-fn serve_read(bytes: &[u8], rank: u32) -> Serving
-    ensures { result ≡ read_served bytes.now rank }
-{
-    if bytes.len() != 12 {
-        return Serving::TurnedAway(16);
-    }
-    let done = rmw_read(crate::load(bytes), rank);
-    let after = done.register;
-    let answer = done.answer;
-    if held(answer) {
-        let rank2 = rank_in(answer);
-        let value = value_in(answer);
-        return Serving::Served(after, Message::ReadAnswer(rank2, value.r0));
-    }
-    Serving::Served(after, Message::Outranked)
+// What comes of a request that is served: the register after the routine, and the answer.
+#[derive(Clone, Copy)]
+pub struct Served {
+    pub register: Register,
+    pub answer: Message,
 }
 
-fn serve_write(bytes: &[u8], rank: u32, revision: u32) -> Serving
-    ensures { result ≡ write_served bytes.now rank revision }
+impl From<ReadDone> for Served {
+    ghost from_gives = { λ done served. served ≡ read_done done };
+
+    #[tactic(auto, using(base::proofs::Tests::picks), unfolding(crate::specs::Serve::answer_to_read))]
+    fn from(done: ReadDone) -> Served {
+        let answer = match done.answer {
+            Some(held) => Message::ReadAnswer(held.rank, held.value.r0),
+            None => Message::Outranked,
+        };
+        Served {
+            register: done.register,
+            answer,
+        }
+    }
+}
+
+impl From<WriteDone> for Served {
+    ghost from_gives = { λ done served. served ≡ write_done done };
+
+    #[tactic(auto, using(base::proofs::Tests::picks), unfolding(crate::specs::Serve::answer_to_write))]
+    fn from(done: WriteDone) -> Served {
+        let answer = if done.taken {
+            Message::Taken
+        } else {
+            Message::NotTaken
+        };
+        Served {
+            register: done.register,
+            answer,
+        }
+    }
+}
+
+// The register in a record, or refusal 16.
+#[tactic(auto, using(base::proofs::Tests::picks), unfolding(crate::specs::Serve::loaded))]
+fn load(bytes: &[u8]) -> Result<Register, Refusal>
+    ensures { result ≡ loaded bytes.now }
 {
-    if bytes.len() != 12 {
-        return Serving::TurnedAway(16);
+    let record = <[u8; 12]>::try_from(bytes).map_err(|_| Refusal::Length)?;
+    Ok(crate::decode(record))
+}
+
+// Stores a register in a record. In what is no record nothing is stored.
+#[tactic(auto, using(base::proofs::Tests::picks))]
+fn store(bytes: &mut [u8], x: Register)
+    ensures { bytes.new ≡ (when eqb (length bytes.old) 12 then encode x else bytes.old) }
+{
+    if let Some(record) = bytes.as_mut_array() {
+        *record = crate::encode(x);
     }
-    let suit = Suit { r0: revision };
-    let done = rmw_write(crate::load(bytes), rank, suit);
-    let after = done.register;
-    if done.taken {
-        return Serving::Served(after, Message::Taken);
-    }
-    Serving::Served(after, Message::NotTaken)
 }
 
 // A message: a request is served, any other is turned away.
-fn serve_message(bytes: &[u8], m: Message) -> Serving
-    ensures { result ≡ served_of bytes.now m }
+fn serve(bytes: &[u8], request: Message) -> Result<Served, Refusal>
+    ensures { result ≡ served_of bytes.now request }
 {
-    match m {
-        Message::ReadRequest(rank) => serve_read(bytes, rank),
-        Message::WriteRequest(rank, revision) => serve_write(bytes, rank, revision),
-        Message::ReadAnswer(_, _) => Serving::TurnedAway(21),
-        Message::Outranked => Serving::TurnedAway(21),
-        Message::Taken => Serving::TurnedAway(21),
-        Message::NotTaken => Serving::TurnedAway(21),
+    match request {
+        Message::ReadRequest(rank) => load(bytes).map(|x| Served::from(x.rmw_read(rank))),
+        Message::WriteRequest(rank, revision) => {
+            load(bytes).map(|x| Served::from(x.rmw_write(rank, suits::of_one(revision))))
+        }
+        Message::ReadAnswer(_, _) | Message::Outranked | Message::Taken | Message::NotTaken => {
+            Err(Refusal::Message)
+        }
     }
 }
 
-// What the reader made of the input.
-fn serve_parsed(bytes: &[u8], p: Parsed) -> Serving
-    ensures { result ≡ served_in bytes.now p }
+// The answer's frame is in the buffer before the register is stored.
+#[tactic(auto, using(base::proofs::Tests::picks, crate::proofs::ServeLaws::stored), unfolding(crate::specs::Serve::serve_answer, crate::specs::Serve::record_after_serve, crate::specs::Serve::buffer_after_serve, crate::specs::Serve::size_after_serve))]
+fn serve_frame(bytes: &mut [u8], input: &[u8], buffer: &mut [u8]) -> Result<usize, Refusal>
+    ensures answer { number_in result ≡ serve_answer bytes.old input.now (length buffer.old) }
+    ensures kept { bytes.new ≡ record_after_serve bytes.old input.now (length buffer.old) }
+    ensures buffer { buffer.new ≡ buffer_after_serve bytes.old input.now buffer.old }
+    ensures size { size_in result ≡ size_after_serve bytes.old input.now (length buffer.old) }
 {
-    match p {
-        Parsed::Refused(k) => Serving::TurnedAway(k),
-        Parsed::Accepted(m) => serve_message(bytes, m),
-    }
+    let request = frames::read_frame(input)?;
+    let served = serve(bytes, request)?;
+    let size = frames::write_frame(buffer, served.answer)?;
+    store(bytes, served.register);
+    Ok(size)
 }
 
 // Serves the request frame at the start of the input on the record `bytes`, writes the answer's frame into the buffer and stores its size.
@@ -72,20 +106,6 @@ pub fn box_serve(bytes: &mut [u8], input: &[u8], buffer: &mut [u8], size: &mut u
     ensures buffer { buffer.new ≡ buffer_after_serve bytes.old input.now buffer.old }
     ensures size { size.new ≡ size_after_serve bytes.old input.now (length buffer.old) }
 {
-    let served = serve_parsed(bytes, frames::read_frame(input));
-    match served {
-        Serving::TurnedAway(k) => {
-            *size = 0;
-            k as u32
-        }
-        Serving::Served(after, answer) => {
-            let written = frames::write_frame(buffer, answer);
-            *size = written.size;
-            if written.refusal != 0 {
-                return written.refusal as u32;
-            }
-            crate::store(bytes, after);
-            0
-        }
-    }
+    let served = serve_frame(bytes, input, buffer);
+    crate::answer_written(served, size)
 }

@@ -1,4 +1,5 @@
-// The calls of crate `firmware` for C, under the names and with the clauses that they have there; include/box_firmware.h declares them.
+// C interface: the calls of crate `firmware` for C, under the names and with the clauses that they have there, since no crate can use a
+// library for C; include/box_firmware.h declares them.
 #![tactic(auto)]
 
 ghost use Rattle.std.specs.Prelude.{◌≡◌, length};

@@ -1,5 +1,7 @@
 -- The claims on steps and runs, proved.
-use native.Mathlib.Omega.{arith}
+use Prim.Native.Nat.{ℕ}
+use Rattle.std.specs.Prelude.{Ok, Err}
+use Rattle.base.specs.declared.Refusal.TheVariants.{Unsound, Records}
 use mathlib.Core.Path.{refl, sym, subst}
 use Rattle.base.specs.Records.{records_in}
 use Rattle.floor.specs.Runs.{played_on}
@@ -58,7 +60,7 @@ pub run_claims : RunClaims
 run_claims = record {
   ran = run_ran;
   played = run_played;
-  played_6 = λ f l z. sym (played_refused f l 6 (run_6 f l z) (λ e. omega (arith, e)));
-  played_5 = λ f l z h. sym (played_refused f l 5 (run_5 f l z h) (λ e. omega (arith, e)));
-  played_whole = λ f l z h. subst (PlayedOver f (records_in l)) (played_whole f l 0 (run_0 f l z h) refl (played_on f (records_in l)) refl) (run_played f (records_in l));
+  played_6 = λ f l z. sym (played_refused f l {A = ℕ} (Err Unsound) (run_6 f l z) Unsound refl);
+  played_5 = λ f l z h. sym (played_refused f l {A = ℕ} (Err Records) (run_5 f l z h) Records refl);
+  played_whole = λ f l z h. subst (PlayedOver f (records_in l)) (played_whole f l {A = ℕ} (Ok 0) (run_0 f l z h) 0 refl (played_on f (records_in l)) refl) (run_played f (records_in l));
 }

@@ -6,6 +6,7 @@ use native.Mathlib.Decide.{dec_lt}
 use mathlib.Core.Path.{◌≡◌, refl, sym, subst}
 use mathlib.Core.Logic.{inl, inr}
 use mathlib.Core.Bool.{Bool, true, false}
+use Rattle.std.proofs.Common.{Option, Some, None}
 use borrow.Author.Tests.{lt-ltb, le-ltb}
 use Rattle.base.proofs.Cases.{clash, up_to}
 use Rattle.base.proofs.Choices.{on_true, on_false, first_false, by_test}
@@ -15,11 +16,11 @@ use Rattle.attempts.specs.Rows.{row_department, first_row, waits_at, used_after}
 use Rattle.attempts.proofs.RowDepartments.{row_own, first_most, row_least, row_number, row_most}
 use Rattle.attempts.specs.declared.Row.{Row}
 use Rattle.attempts.proofs.UsedLaws.{used_more, used_full, none_waits, waits_none}
-use Rattle.places.specs.Search.{lower_in, no_row}
+use Rattle.places.specs.Search.{lower_in}
 use Rattle.places.specs.declared.Lowest.{Lowest}
 use Rattle.places.proofs.PlaceLaws.{lower_means, lower_not, lower_first}
 use Rattle.floor.specs.Floors.{row_at, owner_at, used_of, end_of}
-use Rattle.floor.specs.Free.{still_served, all_served, free_in, is_free, better_in, free_below, next_row}
+use Rattle.floor.specs.Free.{still_served, all_served, free_in, is_free, better_in, free_below, row_in, next_row}
 use Rattle.floor.specs.Claims.{Free, TakesRow, unused, free, none}
 use Rattle.floor.specs.declared.Floor.{Floor}
 
@@ -85,43 +86,43 @@ module _ (f : Floor) (d : Department) where
   own_most k h = omega (arith, first_most d)
 
   -- the best of the first k
-  data BestBelow (k : ℕ) : Lowest → Type 0 where
+  data BestBelow (k : ℕ) : Option Lowest → Type 0 where
     best : {a : ℕ} → a < k → freed a ≡ true → ((c : ℕ) → c < k → freed c ≡ true → rank a ≤ rank c)
-        → ((c : ℕ) → c < a → freed c ≡ true → rank a < rank c) → BestBelow k (at f (own a))
-    nothing : ((c : ℕ) → c < k → freed c ≡ false) → BestBelow k (no_row 128)
+        → ((c : ℕ) → c < a → freed c ≡ true → rank a < rank c) → BestBelow k (Some (at f (own a)))
+    nothing : ((c : ℕ) → c < k → freed c ≡ false) → BestBelow k None
 
   module _ (k : ℕ) (h : k < 64) where
-    abbrev Next : Lowest → Type 0
+    abbrev Next : Option Lowest → Type 0
     Next x = BestBelow (suc k) x
 
     -- the row k is worse than a, or not free
     stays : {a : ℕ} → a < k → freed a ≡ true → ((c : ℕ) → c < k → freed c ≡ true → rank a ≤ rank c)
-        → ((c : ℕ) → c < a → freed c ≡ true → rank a < rank c) → (freed k ≡ true → rank a ≤ rank k) → Next (at f (own a))
+        → ((c : ℕ) → c < a → freed c ≡ true → rank a < rank c) → (freed k ≡ true → rank a ≤ rank k) → Next (Some (at f (own a)))
     stays {a} l e all first here =
         best {a = a} (omega arith) e
         (λ c i q. elim (up_to i) [ inl p ↦ subst (λ (j : ℕ). rank a ≤ rank j) (sym p) (here (subst (λ (j : ℕ). freed j ≡ true) p q)) | inr i ↦ all c i q ]) first
 
-    still_nothing : ((c : ℕ) → c < k → freed c ≡ false) → freed k ≡ false → Next (no_row 128)
+    still_nothing : ((c : ℕ) → c < k → freed c ≡ false) → freed k ≡ false → Next None
     still_nothing all e = nothing (λ c i. elim (up_to i) [ inl p ↦ subst (λ (j : ℕ). freed j ≡ false) (sym p) e | inr i ↦ all c i ])
 
-    more : {x : Lowest} → BestBelow k x → Next (better_in x (row_at f (own k)) (owner_at f (own k)).state f.n (own k))
+    more : {x : Option Lowest} → BestBelow k x → Next (better_in x (row_at f (own k)) (owner_at f (own k)).state f.n (own k))
     unfolding better_in
     more (best {a} l e all first) =
-        by_test Next (lower_in 128 (at f (own a)) (rank k)) _ _
-        (λ t. let lt = lower_means 128 (at f (own a)) (rank k) (own_most a (omega arith)) t in by_test Next (freed k) _ _
+        by_test Next (lower_in (Some (at f (own a))) (rank k)) _ _
+        (λ t. let lt = lower_means (at f (own a)) (rank k) t in by_test Next (freed k) _ _
         (λ u. best {a = k} (omega arith) u
         (λ c i q. elim (up_to i) [ inl p ↦ subst (λ (j : ℕ). rank k ≤ rank j) (sym p) (le_refl (rank k)) | inr i ↦ omega (arith, all c i q) ])
         (λ c i q. omega (arith, all c i q)))
         (λ u. stays l e all first (λ v. clash v u)))
-        (λ t. stays l e all first (λ _. lower_not 128 (at f (own a)) (rank k) (own_most a (omega arith)) t))
+        (λ t. stays l e all first (λ _. lower_not (at f (own a)) (rank k) t))
     more (nothing all) =
-        by_test Next (lower_in 128 (no_row 128) (rank k)) _ _
+        by_test Next (lower_in None (rank k)) _ _
         (λ _. by_test Next (freed k) _ _
         (λ u. best {a = k} (omega arith) u
         (λ c i q. elim (up_to i) [ inl p ↦ subst (λ (j : ℕ). rank k ≤ rank j) (sym p) (le_refl (rank k)) | inr i ↦ clash q (all c i) ])
         (λ c i q. clash q (all c i)))
         (λ u. still_nothing all u))
-        (λ t. clash (lower_first 128 (rank k)) t)
+        (λ t. clash (lower_first (rank k)) t)
 
   best_below : (k : ℕ) → k ≤ 64 → BestBelow k (free_below f d k)
   unfolding free_below
@@ -132,7 +133,7 @@ module _ (f : Floor) (d : Department) where
   unfolding next_row
   next_unused h = sym (on_true _ (lt-ltb (used_of f d) 64 h) refl)
 
-  pub next_full : 64 ≤ used_of f d → next_row f d ≡ (free_below f d 64).row
+  pub next_full : 64 ≤ used_of f d → next_row f d ≡ row_in (free_below f d 64)
   unfolding next_row
   next_full h = sym (on_false _ (le-ltb (used_of f d) 64 h) refl)
 
@@ -140,7 +141,7 @@ module _ (f : Floor) (d : Department) where
   of_own : (P : ℕ → Type 0) → ((k : ℕ) → k < 64 → P (own k)) → (c : ℕ) → row_department c ≡ d → c < 128 → P c
   of_own P p c e h = subst P (sym (row_number d c e)) (p (c - first_row d) (omega (arith, row_least d c e, row_most d c e h)))
 
-  takes_best : {x : Lowest} → 64 ≤ used_of f d → BestBelow 64 x → TakesRow f d x.row
+  takes_best : {x : Option Lowest} → 64 ≤ used_of f d → BestBelow 64 x → TakesRow f d (row_in x)
   takes_best h (best {a} l e all first) =
       free h (row_own d a l) (own_most a l) e (of_own (λ c. is_free f c ≡ true → rank a ≤ (row_at f c).rank) all)
       (λ c q i. of_own (λ c. c < own a → is_free f c ≡ true → rank a < (row_at f c).rank) (λ k _ i. first k (omega arith)) c q (omega (arith, own_most a l)) i)

@@ -1,4 +1,4 @@
--- The parts that the loop reads and stores, and the law that joins them to the specification: on a sound floor a step is refused alike
+-- The parts that a step reads and stores, and the law that joins them to the specification: on a sound floor a step is refused alike
 -- on its parts and on the floor, and one accepted leads to the same floor. No promise speaks of the parts.
 use Prim.Native.Nat.{ℕ, ◌<◌}
 use native.Mathlib.Omega.{arith}
@@ -9,6 +9,7 @@ use lib.ListN.{set}
 use lib.Seq.{set-get_or}
 use borrow.Author.Tests.{leb-false, eqb-true, eqb-false}
 use Rattle.base.specs.Choice.{when◌then◌else◌}
+use Rattle.base.specs.Refusals.{named}
 use Rattle.base.proofs.Cases.{clash}
 use Rattle.base.proofs.Choices.{by_test}
 use Rattle.register.specs.Register.{box0, box_with}
@@ -192,9 +193,9 @@ module _ (f : Floor) (z : Sound f) where
     pub said : y.outcome ≡ (apply_of f c).outcome
     pub left : is_refused y.outcome ≡ false → put f c y.parts ≡ (apply_of f c).floor
 
-  refused_join : (c : Command) → ¬ (refusal_on f c ≡ 0) → Joined c (turned_back (look f c) (refusal_in (look f c) c))
+  refused_join : (c : Command) → ¬ (refusal_on f c ≡ 0) → Joined c (turned_back (look f c) (named (refusal_in (look f c) c)))
   refused_join c e = record {
-    said = ap Refused (refusal_join c) ∙ sym (ap (λ (x : Stepped). x.outcome) (apply_refused f c z e));
+    said = ap (λ (k : ℕ). Refused (named k)) (refusal_join c) ∙ sym (ap (λ (x : Stepped). x.outcome) (apply_refused f c z e));
     left = λ r. clash refl r;
   }
 

@@ -7,6 +7,8 @@ use mathlib.Core.Bool.{Bool, true, false}
 use lib.Dec.{eqb}
 use borrow.Author.Tests.{leb-false, lt-leb, ne_eqb}
 use Rattle.base.specs.Choice.{when◌then◌else◌}
+use Rattle.base.specs.Refusals.{number, named}
+use Rattle.base.proofs.RefusalLaws.{number_named}
 use Rattle.base.proofs.Choices.{on_true, on_false, by_test, passed}
 use Rattle.requests.specs.declared.Phase.{Phase}
 use Rattle.floor.specs.Refusals.{begin_refusal, serve_refusal, deliver_refusal, stop_refusal, leave_refusal, return_refusal, refusal_on}
@@ -105,6 +107,10 @@ module _ (f : Floor) where
   pub return_holds : (b : ℕ) → CanReturn f b → return_refusal f b ≡ 0
   unfolding return_refusal
   return_holds b d = sym (on_false _ (lt-leb _ _ d.box) (on_true _ d.away refl))
+
+-- a step's refusal has its number by its name
+pub named_back : (k : ℕ) → RefusalOfStep k → number (named k) ≡ k
+named_back k h = number_named k (omega (arith, h)) (omega (arith, h))
 
 -- 0, or the number of a refusal
 abbrev pub Numbered : ℕ → Type 0

@@ -7,7 +7,7 @@ use Rattle.base.proofs.Cases.{by_cases}
 use Rattle.commands.specs.Commands.{command_of}
 use Rattle.commands.specs.Outcomes.{number_of, is_refused, is_end}
 use Rattle.commands.specs.declared.Command.{Command}
-use Rattle.commands.proofs.OutcomeLaws.{accepted_number}
+use Rattle.commands.proofs.OutcomeLaws.{accepted_number, number_said}
 use Rattle.runs.specs.Runs.{state_at, stops_by}
 use Rattle.runs.specs.declared.Until.{Until}
 use Rattle.runs.specs.declared.Until.TheVariants.{Refusal}
@@ -38,7 +38,7 @@ run_played f (r ∷ rs) =
       left = o.left;
       each = o.each;
       stopped = λ h. by_cases (is_refused x.outcome)
-          (λ t. let q = o.turned t in (ap is_refused q.1 ∙ t, ap number_of (sym q.1)))
+          (λ t. let q = o.turned t in (ap is_refused q.1 ∙ t, number_said x.outcome ∙ ap number_of (sym q.1)))
           (λ t. absurd (omega (arith, o.whole t)));
-      whole = λ e. by_cases (is_refused x.outcome) (λ t. absurd (omega (arith, (o.turned t).0))) (λ t. accepted_number x.outcome t);
+      whole = λ e. by_cases (is_refused x.outcome) (λ t. absurd (omega (arith, (o.turned t).0))) (λ t. number_said x.outcome ∙ accepted_number x.outcome t);
     }

@@ -4,9 +4,15 @@ use native.Mathlib.Omega.{arith}
 use native.Mathlib.Nat.{le_refl}
 use native.Mathlib.Numerals.{add-one}
 use mathlib.Core.Path.{◌≡◌, refl, sym, subst}
-use mathlib.Core.Bool.{true}
-use mathlib.Core.List.{List}
-use lib.ListN.{get_or}
+use mathlib.Core.Bool.{Bool, true, false}
+use mathlib.Core.List.{List, [], ◌∷◌}
+use lib.ListN.{length, get_or, take, drop, length-drop}
+use lib.Seq.{get_or-drop, take-suc}
+use lib.Dec.{ltb}
+use Rattle.std.specs.Prelude.{◌&&◌}
+use Rattle.std.specs.List.{list_all}
+use Rattle.std.proofs.lemmas.List.Folds.{list_all-append}
+use Rattle.base.specs.Choice.{when◌then◌else◌}
 use borrow.Author.Count.{below_more}
 use borrow.Author.Tests.{ltb-true, ltb-false, lt-ltb, le-ltb}
 use Rattle.base.specs.Claims.{Sizes}
@@ -35,6 +41,22 @@ pub all_below : (rows : List Row) (m first k : ℕ) → ((a : ℕ) → a < k →
 unfolding stations_below
 all_below rows m first zero h = refl
 all_below rows m first (suc k) h = sym (on_true _ (lt-ltb _ _ (h k (le_refl (suc k)))) (sym (all_below rows m first k (λ a l. h a (omega arith)))))
+
+-- the same of the part of the list that is looked at
+one_more : (t u : Bool) → (t && (u && true)) ≡ (when u then t else false)
+unfolding when◌then◌else◌
+one_more true true = refl
+one_more true false = refl
+one_more false true = refl
+one_more false false = refl
+
+pub below_part : (rows : List Row) (m first k : ℕ) → first + k ≤ length rows → list_all (λ (w : Row). ltb w.station m) (take k (drop first rows)) ≡ stations_below rows m first k
+unfolding stations_below
+below_part rows m first zero h = refl
+below_part rows m first (suc k) h =
+    let here : get_or (drop first rows) k row0 ≡ get_or rows (first + k) row0 = get_or-drop first rows k row0 in
+    rw (take-suc (drop first rows) k row0 (rw length-drop (omega arith)), here, list_all-append (λ (w : Row). ltb w.station m) (take k (drop first rows)) (get_or rows (first + k) row0 ∷ []), below_part rows m first k (omega arith))
+    (one_more _ _)
 
 -- the rows that a department uses
 pub record ShareSound (f : Floor) (d : Department) : Type 0 where

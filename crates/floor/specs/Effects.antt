@@ -1,8 +1,9 @@
 -- Document 01, "Steps", and wishes 2, 5, 6, 7 and 8 of document 02: the floor that an accepted step leads to, and what came of it.
-use Rattle.std.specs.Prelude.{ℕ, max, Bool, true, false}
+use Rattle.std.specs.Prelude.{ℕ, max, Bool, true, false, Some}
 use Rattle.suits.specs.declared.Suit.{Suit}
 use Rattle.base.specs.Choice.{when◌then◌else◌}
 use Rattle.base.specs.Numbers.{rank_of}
+use Rattle.base.specs.Refusals.{named}
 use Rattle.register.specs.declared.Register.{Register}
 use Rattle.register.specs.declared.StorageBox.{StorageBox}
 use Rattle.requests.specs.Requests.{of_phase, verdict_of}
@@ -16,7 +17,6 @@ use Rattle.commands.specs.declared.Outcome.TheVariants as said
 use Rattle.attempts.specs.Stations.{with_state, is_in}
 use Rattle.attempts.specs.Rows.{row_department, new_row, used_after, issued, revision_of, row_served, register_served, requests_heard, row_heard}
 use Rattle.attempts.specs.declared.State.TheVariants as state
-use Rattle.attempts.specs.declared.Decision.TheVariants.{Revision}
 use Rattle.attempts.specs.declared.Station.{Station}
 use Rattle.attempts.specs.declared.Row.{Row}
 use Rattle.floor.specs.Floors.{box_at, station_at, row_at, owner_at, register_at, department_at, used_of, highest_of, with_share, with_box, with_register, with_station, with_row}
@@ -82,7 +82,7 @@ read_ended_on f a w = stepped (after_issue f a w (revision_of w f.n)) (said.Writ
 -- "When the q-th write answer reaches a writing station, it decides if all q say taken; otherwise it aborts and is idle." Wish 7: "A station
 -- keeps whether it decided", and which revision.
 abbrev pub deciding : (x : Station) (a : ℕ) (revision : Suit) → Station
-deciding x a revision = record { department = x.department; state = state.Decided a; last = x.last; decided = Revision revision }
+deciding x a revision = record { department = x.department; state = state.Decided a; last = x.last; decided = Some revision }
 
 abbrev pub decider : (f : Floor) (a : ℕ) (w : Row) → Station
 decider f a w = deciding (station_at f w.station) a w.written
@@ -115,7 +115,7 @@ delivered_on f phase a b =
 
 -- Wish 8: "Our boxes lose power and return with their records": both records of the box x stay, whether it is away or not
 abbrev pub with_away : (away : Bool) (x : StorageBox) → StorageBox
-with_away away x = record { sails = x.sails; canvas = x.canvas; away = away }
+with_away away x = record { registers = x.registers; away = away }
 
 -- "6 Stop box b", wish 8: no longer "for good". "Kind 8 puts a box away", "Kind 6 is read as kind 8", "Requests waiting there wait on": no
 -- row changes. "both .. shared as kind 6"
@@ -138,4 +138,4 @@ effect_on f (Deliver p a b) = delivered_on f p a b
 effect_on f (Stop b) = stepped (after_stop f b) (said.Stopped b)
 effect_on f (Leave s) = stepped (after_leave f s) (said.Gone s)
 effect_on f (Return b) = stepped (after_return f b) (said.Back b)
-effect_on f Malformed = stepped f (said.Refused 7)
+effect_on f Malformed = stepped f (said.Refused (named 7))

@@ -1,10 +1,12 @@
 -- Document 01, "The floor", and wish 6 of document 02: what stands at a place, what each department has of the floor, the floor with one
 -- place stored, a new floor, and refusals 3 and 22.
-use Rattle.std.specs.Prelude.{ℕ, zero, suc, ◌+◌, ◌<◌, List, [], eqb, length, get_or, set, replicate}
+use Rattle.std.specs.Prelude.{ℕ, zero, suc, ◌+◌, ◌<◌, List, [], eqb, length, get_or, set, replicate, Some, None}
 use Rattle.base.specs.Choice.{when◌then◌else◌}
 use Rattle.base.specs.Numbers.{sizes_right}
 use Rattle.base.specs.Departments.{departments_wrong}
-use Rattle.register.specs.Register.{of_department, box0, register_of, box_with}
+use Rattle.base.specs.Refusals.{named}
+use Rattle.register.specs.Register.{of_department, departments_with, box0, register_of, box_with}
+use Rattle.register.specs.declared.ByDepartment.{ByDepartment}
 use Rattle.register.specs.declared.Department.{Department}
 use Rattle.register.specs.declared.Department.TheVariants.{Sails, Canvas}
 use Rattle.register.specs.declared.Register.{Register}
@@ -12,11 +14,9 @@ use Rattle.register.specs.declared.StorageBox.{StorageBox}
 use Rattle.attempts.specs.Stations.{station0}
 use Rattle.attempts.specs.Rows.{row0, unused_row, row_department, first_row}
 use Rattle.attempts.specs.declared.State.TheVariants.{Idle}
-use Rattle.attempts.specs.declared.Decision.TheVariants.{None}
 use Rattle.attempts.specs.declared.Station.{Station}
 use Rattle.attempts.specs.declared.Row.{Row}
 use Rattle.floor.specs.declared.Share.{Share}
-use Rattle.floor.specs.declared.Shares.{Shares}
 use Rattle.floor.specs.declared.Floor.{Floor}
 use Rattle.floor.specs.declared.NewFloor.{NewFloor}
 
@@ -70,9 +70,8 @@ with_stations f stations = record { n = f.n; m = f.m; shares = f.shares; boxes =
 abbrev pub with_rows : (f : Floor) (rows : List Row) → Floor
 with_rows f rows = record { n = f.n; m = f.m; shares = f.shares; boxes = f.boxes; stations = f.stations; rows = rows }
 
-abbrev pub shares_with : (department : Department) (f : Floor) (x : Share) → Shares
-shares_with department f x =
-    record { sails = of_department department x f.shares.sails; canvas = of_department department f.shares.canvas x }
+abbrev pub shares_with : (department : Department) (f : Floor) (x : Share) → ByDepartment Share
+shares_with department f x = departments_with department x f.shares
 
 abbrev pub with_share : (department : Department) (f : Floor) (x : Share) → Floor
 with_share department f x =
@@ -121,9 +120,9 @@ empty_floor n m departments =
 unfoldable pub new_floor_of : (n m : ℕ) (departments : List ℕ) → NewFloor
 new_floor_of n m departments =
     when sizes_right n m then
-    (when departments_wrong m departments then record { floor = empty_floor 1 1 []; refusal = 22 }
-    else record { floor = empty_floor n m departments; refusal = 0 })
-    else record { floor = empty_floor 1 1 []; refusal = 3 }
+    (when departments_wrong m departments then record { floor = empty_floor 1 1 []; refusal = Some (named 22) }
+    else record { floor = empty_floor n m departments; refusal = None })
+    else record { floor = empty_floor 1 1 []; refusal = Some (named 3) }
 
 -- Document 01, "The list of demand 3": "It .. starts from a new floor of any n and m", told the departments of its stations (wish 6). Where
 -- these are not right that is the floor of one box and one station, sails.

@@ -1,5 +1,5 @@
 -- Document 02, wishes 5 and 6: when a row is free, and the row that a begin takes in its department.
-use Rattle.std.specs.Prelude.{ℕ, zero, suc, ◌+◌, Bool, true, false, ltb}
+use Rattle.std.specs.Prelude.{ℕ, zero, suc, ◌+◌, Bool, true, false, ltb, Option, Some, None}
 use Rattle.base.specs.Choice.{when◌then◌else◌}
 use Rattle.register.specs.declared.Department.{Department}
 use Rattle.commands.specs.declared.Command.{Command}
@@ -8,7 +8,7 @@ use Rattle.attempts.specs.Stations.{is_active}
 use Rattle.attempts.specs.Rows.{first_row, waits_at}
 use Rattle.attempts.specs.declared.State.{State}
 use Rattle.attempts.specs.declared.Row.{Row}
-use Rattle.places.specs.Search.{lower_in, no_row}
+use Rattle.places.specs.Search.{lower_in}
 use Rattle.places.specs.declared.Lowest.{Lowest}
 use Rattle.floor.specs.Floors.{row_at, owner_at, used_of, end_of}
 use Rattle.floor.specs.declared.Floor.{Floor}
@@ -32,25 +32,29 @@ abbrev pub is_free : (f : Floor) (a : ℕ) → Bool
 is_free f a = free_in (row_at f a) (owner_at f a).state f.n a
 
 -- the better of the row found so far and the row a: that, if it is free and its rank is smaller
-unfoldable pub better_in : (x : Lowest) (w : Row) (state : State) (n a : ℕ) → Lowest
+unfoldable pub better_in : (x : Option Lowest) (w : Row) (state : State) (n a : ℕ) → Option Lowest
 better_in x w state n a =
-    when lower_in 128 x w.rank then (when free_in w state n a then record { row = a; rank = w.rank } else x)
+    when lower_in x w.rank then (when free_in w state n a then Some (record { row = a; rank = w.rank }) else x)
     else x
 
--- "the free row with the smallest rank, of equals the lowest", among the first k rows of the department; its number is 128 where none of
--- them is free
-unfoldable pub free_below : (f : Floor) (department : Department) (k : ℕ) → Lowest
-free_below f department zero = no_row 128
+-- "the free row with the smallest rank, of equals the lowest", among the first k rows of the department, if one of them is free
+unfoldable pub free_below : (f : Floor) (department : Department) (k : ℕ) → Option Lowest
+free_below f department zero = None
 free_below f department (suc k) =
     better_in (free_below f department k) (row_at f (first_row department + k)) (owner_at f (first_row department + k)).state f.n
     (first_row department + k)
 
+-- the number of the row found, 128 where there is none
+abbrev pub row_in : (x : Option Lowest) → ℕ
+row_in (Some x) = x.row
+row_in None = 128
+
 -- the row that a begin of the department takes: the next, and "With all 64 used .. the free row with the smallest rank"; 128 where no row is
 -- unused or free. Wish 6: "each counted (refusals 6 and 12) and freed alone"
 unfoldable pub next_row : (f : Floor) (department : Department) → ℕ
-next_row f department = when ltb (used_of f department) 64 then end_of f department else (free_below f department 64).row
+next_row f department = when ltb (used_of f department) 64 then end_of f department else row_in (free_below f department 64)
 
--- Internal, of the loop: only a begin takes a row,
+-- Internal, of a step: only a begin takes a row
 abbrev pub taken_by : (f : Floor) (department : Department) (c : Command) → ℕ
 taken_by f department (Begin s round v) = next_row f department
 taken_by f department (Serve p a b) = 0
@@ -59,16 +63,3 @@ taken_by f department (Stop b) = 0
 taken_by f department (Leave s) = 0
 taken_by f department (Return b) = 0
 taken_by f department Malformed = 0
-
--- and only one with all 64 used has to look for it: it looks at each row of the department, from its first on
-abbrev pub start_of : (first used : ℕ) (c : Command) → Lowest
-start_of first used (Begin s round v) = when ltb used 64 then record { row = first + used; rank = 0 } else no_row 128
-start_of first used (Serve p a b) = record { row = 0; rank = 0 }
-start_of first used (Deliver p a b) = record { row = 0; rank = 0 }
-start_of first used (Stop b) = record { row = 0; rank = 0 }
-start_of first used (Leave s) = record { row = 0; rank = 0 }
-start_of first used (Return b) = record { row = 0; rank = 0 }
-start_of first used Malformed = record { row = 0; rank = 0 }
-
-unfoldable pub first_of : (x : Lowest) → ℕ
-first_of x = when ltb x.row 128 then 64 else 0

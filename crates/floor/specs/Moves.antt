@@ -1,5 +1,5 @@
 -- What a step may do to a station and a box, seen at any one number, and which steps change what.
-use Rattle.std.specs.Prelude.{ℕ, ◌<◌, ◌≤◌, ◌≡◌, ◌⊎◌, Bool, true, false}
+use Rattle.std.specs.Prelude.{ℕ, ◌<◌, ◌≤◌, ◌≡◌, ◌⊎◌, Bool, true, false, Option, Some}
 use Rattle.suits.specs.declared.Suit.{Suit}
 use Rattle.register.specs.Register.{box_with}
 use Rattle.register.specs.declared.Department.{Department}
@@ -15,8 +15,6 @@ use Rattle.commands.specs.declared.Outcome.TheVariants.{Begun, Served, Aborted, 
 use Rattle.attempts.specs.Stations.{is_gone, is_busy, is_reading, is_writing, is_in, with_state}
 use Rattle.attempts.specs.Rows.{row_department, requests_of, register_served}
 use Rattle.attempts.specs.declared.State.TheVariants as state
-use Rattle.attempts.specs.declared.Decision.{Decision}
-use Rattle.attempts.specs.declared.Decision.TheVariants.{Revision}
 use Rattle.attempts.specs.declared.Station.{Station}
 use Rattle.attempts.specs.declared.Row.{Row}
 use Rattle.floor.specs.Floors.{box_at, station_at, row_at, department_at, InUse}
@@ -63,14 +61,14 @@ pub record SameAttempt (w x : Row) : Type 0 where
   pub offer : x.offer ≡ w.offer
 
 -- The step that sets what a station decided to x: the delivery that says decided with this revision, of an attempt that the station j owns.
-pub record DecidesNow (f : Floor) (c : Command) (j : ℕ) (o : Outcome) (x : Decision) : Type 0 where
+pub record DecidesNow (f : Floor) (c : Command) (j : ℕ) (o : Outcome) (x : Option Suit) : Type 0 where
   pub attempt : ℕ
   pub box : ℕ
   pub command : c ≡ Deliver Write attempt box
   pub used : InUse f attempt
   pub owner : (row_at f attempt).station ≡ j
   pub revision : Suit
-  pub decision : x ≡ Revision revision
+  pub decision : x ≡ Some revision
   pub written : (row_at f attempt).written ≡ revision
   pub outcome : o ≡ Decided revision
 

@@ -1,6 +1,7 @@
 -- What is claimed of runs. The proof is `run_claims` in proofs/Claims.
-use Rattle.std.specs.Prelude.{ℕ, ◌%◌, ◌<◌, ◌≤◌, ◌≡◌, true, false, List, [], ◌∷◌, length}
+use Rattle.std.specs.Prelude.{ℕ, ◌%◌, ◌<◌, ◌≤◌, ◌≡◌, true, false, List, [], ◌∷◌, length, Some}
 use Rattle.base.specs.Records.{records_in}
+use Rattle.base.specs.Refusals.{number_if, named}
 use Rattle.commands.specs.Outcomes.{number_of, is_refused, is_end}
 use Rattle.runs.specs.RanOver.{RanOver}
 use Rattle.runs.specs.declared.Until.{Until}
@@ -22,8 +23,8 @@ pub record PlayedOver (f : Floor) (l : List (List ℕ)) (x : Played) : Type 0 wh
   pub within : x.accepted ≤ length l
   pub left : x.floor ≡ floor_at f l x.accepted
   pub each : (i : ℕ) → i < x.accepted → is_refused (said_at f l i) ≡ false
-  pub stopped : x.accepted < length l → (is_refused (said_at f l x.accepted) ≡ true) × (x.refusal ≡ number_of (said_at f l x.accepted))
-  pub whole : x.accepted ≡ length l → x.refusal ≡ 0
+  pub stopped : x.accepted < length l → (is_refused (said_at f l x.accepted) ≡ true) × (number_if x.refusal ≡ number_of (said_at f l x.accepted))
+  pub whole : x.accepted ≡ length l → number_if x.refusal ≡ 0
 
 -- What holds of every run.
 pub record RunClaims : Type 0 where
@@ -31,6 +32,6 @@ pub record RunClaims : Type 0 where
   pub played : (f : Floor) (rs : List (List ℕ)) → PlayedOver f rs (played_on f rs)
   -- of records handed in as bytes: refused for the floor, however few bytes there are, then for bytes that are not whole records, and else
   -- only where a step is refused, so that no records are no refusal
-  pub played_6 : (f : Floor) (bytes : List ℕ) → sound_of f ≡ false → played_in f bytes ≡ record { floor = f; accepted = 0; refusal = 6 }
-  pub played_5 : (f : Floor) (bytes : List ℕ) → sound_of f ≡ true → ¬ (length bytes % 8 ≡ 0) → played_in f bytes ≡ record { floor = f; accepted = 0; refusal = 5 }
+  pub played_6 : (f : Floor) (bytes : List ℕ) → sound_of f ≡ false → played_in f bytes ≡ record { floor = f; accepted = 0; refusal = Some (named 6) }
+  pub played_5 : (f : Floor) (bytes : List ℕ) → sound_of f ≡ true → ¬ (length bytes % 8 ≡ 0) → played_in f bytes ≡ record { floor = f; accepted = 0; refusal = Some (named 5) }
   pub played_whole : (f : Floor) (bytes : List ℕ) → sound_of f ≡ true → length bytes % 8 ≡ 0 → PlayedOver f (records_in bytes) (played_in f bytes)

@@ -1,9 +1,10 @@
 -- The steps of a list of records, "each step given the floor that the last one left".
-use Rattle.std.specs.Prelude.{ℕ, List, [], ◌∷◌, Bool, eqb, length, get_or}
+use Rattle.std.specs.Prelude.{ℕ, List, [], ◌∷◌, Bool, eqb, length, get_or, Some, None}
 use Rattle.base.specs.Choice.{when◌then◌else◌}
+use Rattle.base.specs.Refusals.{named}
 use Rattle.base.specs.Records.{records_in}
 use Rattle.commands.specs.Commands.{command_of}
-use Rattle.commands.specs.Outcomes.{number_of, is_refused, is_end}
+use Rattle.commands.specs.Outcomes.{refusal_said, is_refused, is_end}
 use Rattle.commands.specs.declared.Command.{Command}
 use Rattle.commands.specs.declared.Outcome.{Outcome}
 use Rattle.commands.specs.declared.Outcome.TheVariants.{Refused}
@@ -52,14 +53,14 @@ run_from until k f c rs =
 abbrev pub run_of : (until : Until) (f : Floor) (r : List ℕ) (rs : List (List ℕ)) → Ran
 run_of until f r rs = run_from until 0 f (command_of r) rs
 
--- "It stops at the first refused record": the floor that the accepted steps left, how many they are, and the refusal, 0 if none
+-- "It stops at the first refused record": the floor that the accepted steps left, how many they are, and the refusal, if any
 unfoldable pub played_on : (f : Floor) (rs : List (List ℕ)) → Played
-played_on f [] = record { floor = f; accepted = 0; refusal = 0 }
+played_on f [] = record { floor = f; accepted = 0; refusal = None }
 played_on f (r ∷ rs) =
     record {
       floor = (run_of Refusal f r rs).floor;
       accepted = (run_of Refusal f r rs).accepted;
-      refusal = number_of (run_of Refusal f r rs).outcome;
+      refusal = refusal_said (run_of Refusal f r rs).outcome;
     }
 
 -- Records handed in as a list of bytes: what turns it back before its first step
@@ -70,10 +71,10 @@ run_refusal f bytes = refusal_by (sound_of f) (length bytes)
 unfoldable pub played_in : (f : Floor) (bytes : List ℕ) → Played
 played_in f bytes =
     when eqb (run_refusal f bytes) 0 then played_on f (records_in bytes)
-    else record { floor = f; accepted = 0; refusal = run_refusal f bytes }
+    else record { floor = f; accepted = 0; refusal = Some (named (run_refusal f bytes)) }
 
 -- a record and those behind it, up to the end of an attempt
 unfoldable pub driven_in : (f : Floor) (r bytes : List ℕ) → Ran
 driven_in f r bytes =
     when eqb (run_refusal f bytes) 0 then run_of End f r (records_in bytes)
-    else record { floor = f; accepted = 0; outcome = Refused (run_refusal f bytes) }
+    else record { floor = f; accepted = 0; outcome = Refused (named (run_refusal f bytes)) }

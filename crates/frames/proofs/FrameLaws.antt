@@ -8,6 +8,10 @@ use borrow.Author.Tests.{le-leb, leb-true, lt-ltb, le-ltb, ltb-true, ltb-false, 
 use lib.Dec.{eqb, ltb}
 use lib.ListN.{length, get_or, take, drop, length-append, take-append-drop}
 use lib.Seq.{drop-cons, drop-drop, take-add, drop-append_seam}
+use Rattle.std.specs.Prelude.{Result, Ok, Err}
+use Rattle.base.specs.Refusals.{number_in}
+use Rattle.base.specs.declared.Refusal.{Refusal}
+use Rattle.base.specs.declared.Refusal.TheVariants as refusal
 use Rattle.base.specs.Bytes.{Bytes, bytes16, bytes32, word_at}
 use Rattle.base.specs.Choice.{when◌then◌else◌}
 use Rattle.base.proofs.ByteLaws.{bytes_below, bytes16_of_word, word32_of_bytes, word_at_bytes}
@@ -15,14 +19,15 @@ use Rattle.base.proofs.Cases.{clash, by_cases}
 use Rattle.base.proofs.Choices.{on_true, on_false, chosen, by_test, passed}
 use Rattle.base.proofs.WritingLaws.{no_size, buffer_kept, size_is, bytes_stand, behind_kept, room_kept}
 use Rattle.frames.specs.Claims.{Whole, FieldsFit, ReadAs, frame_in, Filled, Untouched, WrittenAgain, joined, AllRight, Reads, none, next, Wrong, read_of_0, write_of_0, WriteTurned, gives_21, gives_18, accepts}
-use Rattle.frames.specs.Messages.{kind_of, fields_of, first_of, second_of, spelt, body_of, frame_of, wrong_message, known, fields_in}
-use Rattle.frames.specs.Reader.{stated_length, version_in, kind_byte, end_of, field_at, checked, formed, parsed, refusal_in, frame_refusal, behind_start, behind_of}
+use Rattle.frames.specs.Messages.{kind_of, fields_of, first_of, second_of, spelt, body_of, frame_of, wrong_message, known, fields_in, number_of, kind_numbered, message_with}
+use Rattle.frames.specs.Reader.{stated_length, version_in, kind_byte, end_of, field_at, checked, formed_by, formed, parsed, frame_refusal, behind_start, behind_of}
 use Rattle.frames.specs.Writer.{write_refusal, written_size, written_buffer}
+use Rattle.frames.specs.declared.Kind.{Kind}
+use Rattle.frames.specs.declared.Kind.TheVariants as kinds
 use Rattle.frames.specs.declared.Message.{Message}
 use Rattle.frames.specs.declared.Message.TheVariants.{ReadRequest, WriteRequest, ReadAnswer, Outranked, Taken, NotTaken}
-use Rattle.frames.specs.declared.Parsed.{Parsed}
-use Rattle.frames.specs.declared.Parsed.TheVariants.{Refused, Accepted}
-use Rattle.frames.proofs.MessageLaws.{fields_few, frame_size}
+use Rattle.frames.proofs.KindLaws.{numbered_means}
+use Rattle.frames.proofs.MessageLaws.{fields_few, frame_size, checked_right, checked_wrong, checked_means}
 use Rattle.frames.proofs.ReaderLaws.{gives_message, accepted_means, start_accepted, behind_accepted}
 
 -- ---- kinds by number
@@ -46,7 +51,7 @@ of_number kind first second =
     else NotTaken
 
 formed_known : (m : Message) (first second : ℕ) → formed (kind_of m) first second ≡ checked (of_number (kind_of m) first second)
-unfolding formed of_number when◌then◌else◌
+unfolding kind_numbered of_number when◌then◌else◌
 formed_known (ReadRequest r) first second = refl
 formed_known (WriteRequest r v) first second = refl
 formed_known (ReadAnswer w v) first second = refl
@@ -143,30 +148,13 @@ pub frame_apart : (m o : Message) → frame_of m ≡ frame_of o → m ≡ o
 frame_apart m o e = (frame_begins m o [] [] (ap (λ (s : List ℕ). s ++ []) e)).0
 
 -- ---- what is turned away, and what is not
-pub checked_right : (m : Message) → wrong_message m ≡ false → checked m ≡ Accepted m
-unfolding checked
-checked_right m t = sym (on_false _ t refl)
-
-pub checked_wrong : (m : Message) → wrong_message m ≡ true → checked m ≡ Refused 21
-unfolding checked
-checked_wrong m t = sym (on_true _ t refl)
-
-checked_means : (x m : Message) → checked x ≡ Accepted m → (x ≡ m) × (wrong_message m ≡ false)
-checked_means x m e =
-    by_cases (wrong_message x)
-    (λ t. absurd (let z : ◌≡◌ {A = ℕ} 21 0 = ap refusal_in (sym (checked_wrong x t) ∙ e) in omega arith))
-    (λ t. let same : x ≡ m = accepted_one (sym (checked_right x t) ∙ e) in (same, rw same at t))
-  where
-    accepted_one : Accepted x ≡ Accepted m → x ≡ m
-    accepted_one p = cc
-
-pub frame_zero : (m : Message) (t : List ℕ) → wrong_message m ≡ true → parsed (frame_of m ++ t) ≡ Refused 21
+pub frame_zero : (m : Message) (t : List ℕ) → wrong_message m ≡ true → parsed (frame_of m ++ t) ≡ Err refusal.Message
 frame_zero m t e = frame_parsed t m ∙ checked_wrong m e
 
 pub frame_back : (m : Message) (t : List ℕ) → wrong_message m ≡ false → ReadAs (frame_of m ++ t) m t
 frame_back m t e =
     let accepted = frame_parsed t m ∙ checked_right m e in
-    record { message = accepted; behind = sym (behind_accepted (frame_of m ++ t) 0 (sym (ap refusal_in accepted)) refl) ∙ behind_told t m }
+    record { message = accepted; behind = sym (behind_accepted (frame_of m ++ t) (ap number_in accepted)) ∙ behind_told t m }
 
 -- ---- a message that was formed of a kind's number and two fields
 record Formed (kind first second : ℕ) (m : Message) : Type 0 where
@@ -174,35 +162,44 @@ record Formed (kind first second : ℕ) (m : Message) : Type 0 where
   pub fields_are : fields_of m ≡ take (fields_in kind) (first ∷ second ∷ [])
   pub right : wrong_message m ≡ false
 
-module _ (kind first second : ℕ) (m : Message) where
-  abbrev Means : Parsed → Type 0
-  Means p = p ≡ Accepted m → Formed kind first second m
+module _ (first second : ℕ) where
+  -- the number of a message that was formed of a kind, and its fields
+  kind_made : (k : Kind) → number_of k ≡ kind_of (message_with k first second)
+  kind_made kinds.ReadRequest = refl
+  kind_made kinds.WriteRequest = refl
+  kind_made kinds.ReadAnswer = refl
+  kind_made kinds.Outranked = refl
+  kind_made kinds.Taken = refl
+  kind_made kinds.NotTaken = refl
 
-  of_kind : (j : ℕ) (x : Message) → j ≡ kind_of x → fields_of x ≡ take (fields_in j) (first ∷ second ∷ []) → eqb kind j ≡ true → Means (checked x)
-  of_kind j x k f t e =
-      let c = checked_means x m e in
-      let same = eqb-true kind j t in
-      record { kind_is = same ∙ k ∙ ap kind_of c.0; fields_are = ap fields_of (sym c.0) ∙ rw same f; right = c.1 }
+  fields_made : (k : Kind) → fields_of (message_with k first second) ≡ take (fields_in (number_of k)) (first ∷ second ∷ [])
+  unfolding fields_in when◌then◌else◌
+  fields_made kinds.ReadRequest = refl
+  fields_made kinds.WriteRequest = refl
+  fields_made kinds.ReadAnswer = refl
+  fields_made kinds.Outranked = refl
+  fields_made kinds.Taken = refl
+  fields_made kinds.NotTaken = refl
 
-  formed_means : formed kind first second ≡ Accepted m → Formed kind first second m
-  unfolding formed fields_in when◌then◌else◌
-  formed_means =
-      by_test Means _ _ _ (of_kind 1 (ReadRequest first) refl refl) (λ _.
-      by_test Means _ _ _ (of_kind 2 (WriteRequest first second) refl refl) (λ _.
-      by_test Means _ _ _ (of_kind 3 (ReadAnswer first second) refl refl) (λ _.
-      by_test Means _ _ _ (of_kind 4 Outranked refl refl) (λ _.
-      by_test Means _ _ _ (of_kind 5 Taken refl refl) (λ _.
-      by_test Means _ _ _ (of_kind 6 NotTaken refl refl)
-      (λ _ e. absurd (let z : ◌≡◌ {A = ℕ} 21 0 = ap refusal_in e in omega arith)))))))
+  module _ (kind : ℕ) (m : Message) where
+    made_means : (r : Result Kind Refusal) → kind_numbered kind ≡ r → formed_by first second r ≡ Ok m → Formed kind first second m
+    made_means (Err r) n e = absurd cc
+    made_means (Ok k) n e =
+        let c = checked_means _ m e in
+        let number = numbered_means kind k n in
+        record { kind_is = number ∙ kind_made k ∙ ap kind_of c.0; fields_are = ap fields_of (sym c.0) ∙ rw number (fields_made k); right = c.1 }
+
+    formed_means : formed kind first second ≡ Ok m → Formed kind first second m
+    formed_means = made_means (kind_numbered kind) refl
 
 unknown_not : (kind j : ℕ) → known kind ≡ false → known j ≡ true → eqb kind j ≡ false
 unknown_not kind j u k = by_cases (eqb kind j) (λ t. absurd (true≢false (sym k ∙ ap known (sym (eqb-true kind j t)) ∙ u))) (λ t. t)
 
-pub formed_unknown : (kind first second : ℕ) → known kind ≡ false → formed kind first second ≡ Refused 21
-unfolding formed known when◌then◌else◌
+pub formed_unknown : (kind first second : ℕ) → known kind ≡ false → formed kind first second ≡ Err refusal.Message
+unfolding kind_numbered known when◌then◌else◌
 formed_unknown kind first second u =
-    sym (on_false _ (unknown_not kind 1 u refl) (on_false _ (unknown_not kind 2 u refl) (on_false _ (unknown_not kind 3 u refl)
-    (on_false _ (unknown_not kind 4 u refl) (on_false _ (unknown_not kind 5 u refl) (on_false _ (unknown_not kind 6 u refl) refl))))))
+    ap (formed_by first second) (sym (on_false _ (unknown_not kind 1 u refl) (on_false _ (unknown_not kind 2 u refl) (on_false _ (unknown_not kind 3 u refl)
+    (on_false _ (unknown_not kind 4 u refl) (on_false _ (unknown_not kind 5 u refl) (on_false _ (unknown_not kind 6 u refl) refl)))))))
 
 -- the kinds are 1 to 6
 pub known_means : (kind : ℕ) → known kind ≡ true → (1 ≤ kind) × (kind ≤ 6)
@@ -247,12 +244,12 @@ module _ (s : List ℕ) (b : Bytes s) where
       ∙ sym (take-add 4 4 (drop 4 s))
   fields_bytes (suc (suc (suc k))) h l = absurd (omega arith)
 
-  module _ (m : Message) (e : parsed s ≡ Accepted m) where
+  module _ (m : Message) (e : parsed s ≡ Ok m) where
     unrefused : frame_refusal s ≡ 0
-    unrefused = ap refusal_in e
+    unrefused = ap number_in e
 
     form : Formed (kind_byte s) (field_at s 4) (field_at s 8) m
-    form = formed_means (kind_byte s) (field_at s 4) (field_at s 8) m (sym (accepted_means s unrefused).1.1 ∙ e)
+    form = formed_means (field_at s 4) (field_at s 8) (kind_byte s) m (sym (accepted_means s unrefused).1.1 ∙ e)
 
     -- the length is that of the message's frame
     stated_own : stated_length s ≡ 2 + 4 * fields_in (kind_byte s)
@@ -278,11 +275,11 @@ module _ (s : List ℕ) (b : Bytes s) where
         rw (size, take-add 4 (4 * k) s, head, ← rest, ← form.fields_are, form.kind_is, (accepted_means s unrefused).1.0, ← body_length)
 
     pub accepted_exactly : s ≡ frame_of m ++ behind_of s
-    accepted_exactly = sym (take-append-drop (end_of s) s) ∙ ap₂ ◌++◌ frame_taken (behind_accepted s 0 (sym unrefused) refl)
+    accepted_exactly = sym (take-append-drop (end_of s) s) ∙ ap₂ ◌++◌ frame_taken (behind_accepted s unrefused)
 
-pub accepted_right : (s : List ℕ) (m : Message) → parsed s ≡ Accepted m → wrong_message m ≡ false
+pub accepted_right : (s : List ℕ) (m : Message) → parsed s ≡ Ok m → wrong_message m ≡ false
 accepted_right s m e =
-    (formed_means (kind_byte s) (field_at s 4) (field_at s 8) m (sym (accepted_means s (ap refusal_in e)).1.1 ∙ e)).right
+    (formed_means (field_at s 4) (field_at s 8) (kind_byte s) m (sym (accepted_means s (ap number_in e)).1.1 ∙ e)).right
 
 -- ---- one frame after the other
 pub stream_read : (ms : List Message) (t : List ℕ) → AllRight ms → Reads (joined ms ++ t) ms t
@@ -346,9 +343,9 @@ module _ (b : List ℕ) (m : Message) where
     written_back t = rw left_filled.frame (frame_back m t (write_means (length b) m e).0)
 
 -- an accepted input, written again
-module _ (s b : List ℕ) (m : Message) (bytes : Bytes s) (e : parsed s ≡ Accepted m) where
+module _ (s b : List ℕ) (m : Message) (bytes : Bytes s) (e : parsed s ≡ Ok m) where
   start_is : behind_start s ≡ length (frame_of m)
-  start_is = sym (start_accepted s 0 (sym (ap refusal_in e)) refl) ∙ end_is s bytes m e
+  start_is = sym (start_accepted s (ap number_in e)) ∙ end_is s bytes m e
 
   pub writes_again : behind_start s ≤ length b → WrittenAgain b s m
   writes_again h =
@@ -357,7 +354,7 @@ module _ (s b : List ℕ) (m : Message) (bytes : Bytes s) (e : parsed s ≡ Acce
       record {
         accepted = accepted;
         size = filled.size ∙ sym start_is;
-        same = filled.frame ∙ sym (frame_taken s bytes m e) ∙ ap (λ (k : ℕ). take k s) (start_accepted s 0 (sym (ap refusal_in e)) refl);
+        same = filled.frame ∙ sym (frame_taken s bytes m e) ∙ ap (λ (k : ℕ). take k s) (start_accepted s (ap number_in e));
       }
 
   pub writes_short : length b < behind_start s → write_refusal (length b) m ≡ 18

@@ -1,3 +1,4 @@
+pub mod KindLaws
 pub mod MessageLaws
 pub mod ReaderLaws
 pub mod WriterLaws

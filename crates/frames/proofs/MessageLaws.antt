@@ -1,13 +1,19 @@
 -- The kinds of messages and their frames: what the functions go by.
 use Prim.Native.Nat.{ℕ, ◌+◌, ◌*◌, ◌≤◌}
 use native.Mathlib.Omega.{arith}
-use mathlib.Core.Path.{◌≡◌, refl}
+use mathlib.Core.Path.{◌≡◌, refl, sym}
+use mathlib.Core.Bool.{true, false}
 use mathlib.Core.List.{◌++◌}
 use lib.ListN.{length, take}
+use Rattle.std.specs.Prelude.{Ok, Err}
+use Rattle.base.specs.declared.Refusal.{Refusal}
+use Rattle.base.specs.declared.Refusal.TheVariants as refusal
 use Rattle.base.specs.Bytes.{word32, bytes32}
 use Rattle.base.specs.Choice.{when◌then◌else◌}
-use Rattle.base.proofs.Choices.{by_test}
-use Rattle.frames.specs.Messages.{kind_of, first_of, second_of, body_of, frame_of, fields_in}
+use Rattle.base.proofs.Cases.{by_cases}
+use Rattle.base.proofs.Choices.{on_true, on_false, by_test}
+use Rattle.frames.specs.Messages.{kind_of, first_of, second_of, body_of, frame_of, wrong_message, fields_in}
+use Rattle.frames.specs.Reader.{checked}
 use Rattle.frames.specs.declared.Message.{Message}
 use Rattle.frames.specs.declared.Message.TheVariants.{ReadRequest, WriteRequest, ReadAnswer, Outranked, Taken, NotTaken}
 
@@ -38,3 +44,25 @@ frame_starts (ReadAnswer w v) = refl
 frame_starts Outranked = refl
 frame_starts Taken = refl
 frame_starts NotTaken = refl
+
+-- ---- what is turned away, and what is not
+pub checked_right : (m : Message) → wrong_message m ≡ false → checked m ≡ Ok m
+unfolding checked
+checked_right m t = sym (on_false _ t refl)
+
+pub checked_wrong : (m : Message) → wrong_message m ≡ true → checked m ≡ Err refusal.Message
+unfolding checked
+checked_wrong m t = sym (on_true _ t refl)
+
+-- a message that was checked is the one given, and right; one that was turned away is wrong
+pub checked_means : (x m : Message) → checked x ≡ Ok m → (x ≡ m) × (wrong_message m ≡ false)
+checked_means x m e =
+    by_cases (wrong_message x)
+    (λ t. absurd (cc (checked_wrong x t)))
+    (λ t. let same : x ≡ m = cc (checked_right x t) in (same, rw same at t))
+
+pub turned_means : (m : Message) (r : Refusal) → checked m ≡ Err r → (r ≡ refusal.Message) × (wrong_message m ≡ true)
+turned_means m r e =
+    by_cases (wrong_message m)
+    (λ t. let same : r ≡ refusal.Message = cc (checked_wrong m t) in (same, t))
+    (λ t. absurd (cc (checked_right m t)))

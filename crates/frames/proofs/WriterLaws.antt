@@ -2,21 +2,25 @@
 use Prim.Native.Nat.{ℕ, ◌+◌, ◌*◌, ◌≤◌, ◌<◌}
 use native.Mathlib.Omega.{arith}
 use mathlib.Core.Path.{◌≡◌, refl, sym, ap, ap₂, ◌∙◌}
-use mathlib.Core.Bool.{true, false}
+use mathlib.Core.Bool.{false}
 use mathlib.Core.List.{List, ◌++◌}
 use borrow.Author.Tests.{lt-ltb, le-ltb}
 use lib.Dec.{leb}
 use lib.ListN.{length, take, drop}
 use lib.Seq.{drop-drop}
+use Rattle.std.specs.Prelude.{Result, Ok, Err}
+use Rattle.base.specs.Refusals.{number_in, size_in}
+use Rattle.base.specs.declared.Refusal.{Refusal}
 use Rattle.base.specs.Bytes.{word32, bytes32, with_word}
 use Rattle.base.specs.Choice.{when◌then◌else◌}
 use Rattle.base.proofs.ByteLaws.{word_stored}
 use Rattle.base.proofs.Choices.{on_true, on_false}
 use Rattle.base.proofs.WritingLaws.{no_size, buffer_kept, size_is, buffer_is}
 use Rattle.frames.specs.Messages.{kind_of, first_of, second_of, frame_of, wrong_message, fields_in}
+use Rattle.frames.specs.Reader.{checked}
 use Rattle.frames.specs.Writer.{write_refusal, written_size, written_buffer}
 use Rattle.frames.specs.declared.Message.{Message}
-use Rattle.frames.proofs.MessageLaws.{frame_size, frame_starts}
+use Rattle.frames.proofs.MessageLaws.{frame_size, frame_starts, checked_means, turned_means}
 
 -- refusal k, the size said and the buffer left
 abbrev Said : (b : List ℕ) (m : Message) (k size : ℕ) (left : List ℕ) → Type 0
@@ -27,18 +31,21 @@ module _ (b : List ℕ) (m : Message) where
   unfolding written_size written_buffer
   refused_said k e f = let r = rw e at f in (e, (sym (no_size _ (frame_of m) b r), sym (buffer_kept _ (frame_of m) b r)))
 
-  pub said_21 : wrong_message m ≡ true → Said b m 21 0 b
+  pub said_21 : (r : Refusal) → checked m ≡ Err r → (x : Result ℕ Refusal) → x ≡ Err r → Said b m (number_in x) (size_in x) b
   unfolding write_refusal
-  said_21 t = refused_said 21 (on_true _ t refl) (λ z. omega arith)
+  said_21 r e x f = let w = turned_means m r e in rw (f, w.0) (refused_said 21 (on_true _ w.1 refl) (λ z. omega arith))
 
   -- the message is right, and its frame has this size
-  module _ (t : wrong_message m ≡ false) (kind fields : ℕ) (e : kind ≡ kind_of m) (f : fields ≡ fields_in kind) where
+  module _ (o : Message) (c : checked m ≡ Ok o) (kind fields : ℕ) (e : kind ≡ kind_of m) (f : fields ≡ fields_in kind) where
+    right : wrong_message m ≡ false
+    right = let a = checked_means m o c in rw a.0 a.1
+
     sized : 4 + 4 * fields ≡ length (frame_of m)
     sized = rw (f, e) (sym (frame_size m))
 
     pub said_18 : length b < 4 + 4 * fields → Said b m 18 0 b
     unfolding write_refusal
-    said_18 h = refused_said 18 (on_false _ t (on_true _ (lt-ltb (length b) (length (frame_of m)) (omega (arith, sized))) refl)) (λ z. omega arith)
+    said_18 h = refused_said 18 (on_false _ right (on_true _ (lt-ltb (length b) (length (frame_of m)) (omega (arith, sized))) refl)) (λ z. omega arith)
 
     pub written_said : 4 + 4 * fields ≤ length b → (head first second : ℕ) (left : List ℕ)
         → head ≡ word32 0 (2 + 4 * fields_in kind) 1 kind → first ≡ first_of m → second ≡ second_of m
@@ -46,7 +53,7 @@ module _ (b : List ℕ) (m : Message) where
         → Said b m 0 (4 + 4 * fields) left
     unfolding write_refusal written_size written_buffer
     written_said h head first second left g p q l =
-        let none : 0 ≡ write_refusal (length b) m = on_false _ t (on_false _ (le-ltb (length b) (length (frame_of m)) (omega (arith, sized))) refl) in
+        let none : 0 ≡ write_refusal (length b) m = on_false _ right (on_false _ (le-ltb (length b) (length (frame_of m)) (omega (arith, sized))) refl) in
         let frame : take (4 + 4 * fields) (bytes32 head ++ (bytes32 first ++ bytes32 second)) ≡ frame_of m = rw (g, p, q, f, e) (frame_starts m) in
         let put : left ≡ frame_of m ++ drop (length (frame_of m)) b = l ∙ ap₂ ◌++◌ frame (ap (λ (k : ℕ). drop k b) sized) in
         (none, (sized ∙ sym (size_is _ (frame_of m) b (sym none)), put ∙ sym (buffer_is _ (frame_of m) b (sym none))))

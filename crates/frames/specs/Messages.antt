@@ -1,7 +1,11 @@
 -- Document 02, wish 3, "Frames on the wire": the messages between stations and boxes, and the frame of each.
-use Rattle.std.specs.Prelude.{ℕ, Bool, false, List, [], ◌∷◌, ◌++◌, eqb, leb, ltb, length, get_or}
+use Rattle.std.specs.Prelude.{ℕ, Bool, false, List, [], ◌∷◌, ◌++◌, eqb, leb, ltb, length, get_or, Result, Ok, Err}
 use Rattle.base.specs.Choice.{when◌then◌else◌}
 use Rattle.base.specs.Bytes.{bytes16, bytes32}
+use Rattle.base.specs.declared.Refusal.{Refusal}
+use Rattle.base.specs.declared.Refusal.TheVariants as refusal
+use Rattle.frames.specs.declared.Kind.{Kind}
+use Rattle.frames.specs.declared.Kind.TheVariants as kinds
 use Rattle.frames.specs.declared.Message.{Message}
 use Rattle.frames.specs.declared.Message.TheVariants.{ReadRequest, WriteRequest, ReadAnswer, Outranked, Taken, NotTaken}
 
@@ -62,3 +66,32 @@ fields_in kind =
     else when eqb kind 2 then 2
     else when eqb kind 3 then 2
     else 0
+
+-- the kinds by name, and each by its number
+abbrev pub number_of : (kind : Kind) → ℕ
+number_of kinds.ReadRequest = 1
+number_of kinds.WriteRequest = 2
+number_of kinds.ReadAnswer = 3
+number_of kinds.Outranked = 4
+number_of kinds.Taken = 5
+number_of kinds.NotTaken = 6
+
+-- 21: "an unknown kind"
+unfoldable pub kind_numbered : (number : ℕ) → Result Kind Refusal
+kind_numbered number =
+    when eqb number 1 then Ok kinds.ReadRequest
+    else when eqb number 2 then Ok kinds.WriteRequest
+    else when eqb number 3 then Ok kinds.ReadAnswer
+    else when eqb number 4 then Ok kinds.Outranked
+    else when eqb number 5 then Ok kinds.Taken
+    else when eqb number 6 then Ok kinds.NotTaken
+    else Err refusal.Message
+
+-- the message of a kind with these fields; a field that the kind does not have is not looked at
+abbrev pub message_with : (kind : Kind) (first second : ℕ) → Message
+message_with kinds.ReadRequest first second = ReadRequest first
+message_with kinds.WriteRequest first second = WriteRequest first second
+message_with kinds.ReadAnswer first second = ReadAnswer first second
+message_with kinds.Outranked first second = Outranked
+message_with kinds.Taken first second = Taken
+message_with kinds.NotTaken first second = NotTaken

@@ -1,12 +1,14 @@
 -- Document 02, wish 3: the reader of frames. It reads the frame at the start of an input of any bytes, s, and hands back what stands behind.
-use Rattle.std.specs.Prelude.{ℕ, ◌+◌, ◌*◌, Bool, true, false, not, List, [], eqb, leb, ltb, length, get_or, drop}
+use Rattle.std.specs.Prelude.{ℕ, ◌+◌, ◌*◌, Bool, true, false, not, List, [], eqb, leb, ltb, length, get_or, drop, Result, Ok, Err}
 use Rattle.base.specs.Choice.{when◌then◌else◌}
 use Rattle.base.specs.Bytes.{word16, word_at}
-use Rattle.frames.specs.Messages.{kind_of, first_of, second_of, wrong_message, known, fields_in}
+use Rattle.base.specs.Refusals.{number_in}
+use Rattle.base.specs.declared.Refusal.{Refusal}
+use Rattle.base.specs.declared.Refusal.TheVariants.{FrameLength, FrameVersion}
+use Rattle.base.specs.declared.Refusal.TheVariants as refusal
+use Rattle.frames.specs.Messages.{kind_of, first_of, second_of, wrong_message, known, fields_in, kind_numbered, message_with}
 use Rattle.frames.specs.declared.Message.{Message}
-use Rattle.frames.specs.declared.Message.TheVariants.{ReadRequest, WriteRequest, ReadAnswer, Outranked, Taken, NotTaken}
-use Rattle.frames.specs.declared.Parsed.{Parsed}
-use Rattle.frames.specs.declared.Parsed.TheVariants.{Refused, Accepted}
+use Rattle.frames.specs.declared.Kind.{Kind}
 
 -- "a 2-byte length of the rest, version byte 1, a kind byte". A byte past the end reads 0.
 abbrev pub stated_length : (s : List ℕ) → ℕ
@@ -44,48 +46,41 @@ unfoldable pub wrong_version : (s : List ℕ) → Bool
 wrong_version s = not (eqb (version_in s) 1)
 
 -- the message, if it is not one that is turned away: "then 21 for .. a rank .. of 0 in a request"
-unfoldable pub checked : (m : Message) → Parsed
-checked m = when wrong_message m then Refused 21 else Accepted m
+unfoldable pub checked : (m : Message) → Result Message Refusal
+checked m = when wrong_message m then Err refusal.Message else Ok m
 
 -- the message of a kind, given by its number, with these fields; a field that the kind does not have is not looked at. "then 21 for an
 -- unknown kind".
-unfoldable pub formed : (kind first second : ℕ) → Parsed
-formed kind first second =
-    when eqb kind 1 then checked (ReadRequest first)
-    else when eqb kind 2 then checked (WriteRequest first second)
-    else when eqb kind 3 then checked (ReadAnswer first second)
-    else when eqb kind 4 then checked Outranked
-    else when eqb kind 5 then checked Taken
-    else when eqb kind 6 then checked NotTaken
-    else Refused 21
+abbrev pub formed_by : (first second : ℕ) (kind : Result Kind Refusal) → Result Message Refusal
+formed_by first second (Ok kind) = checked (message_with kind first second)
+formed_by first second (Err r) = Err r
 
--- the answer in numbers: the refusal, 0 where there is none; the kind and its fields, 0 where there are none
-abbrev pub refusal_in : (p : Parsed) → ℕ
-refusal_in (Refused k) = k
-refusal_in (Accepted m) = 0
+abbrev pub formed : (kind first second : ℕ) → Result Message Refusal
+formed kind first second = formed_by first second (kind_numbered kind)
 
-abbrev pub kind_in : (p : Parsed) → ℕ
-kind_in (Refused k) = 0
-kind_in (Accepted m) = kind_of m
+-- the answer in numbers: the kind and its fields, 0 where there are none
+abbrev pub kind_in : (p : Result Message Refusal) → ℕ
+kind_in (Err r) = 0
+kind_in (Ok m) = kind_of m
 
-abbrev pub first_in : (p : Parsed) → ℕ
-first_in (Refused k) = 0
-first_in (Accepted m) = first_of m
+abbrev pub first_in : (p : Result Message Refusal) → ℕ
+first_in (Err r) = 0
+first_in (Ok m) = first_of m
 
-abbrev pub second_in : (p : Parsed) → ℕ
-second_in (Refused k) = 0
-second_in (Accepted m) = second_of m
+abbrev pub second_in : (p : Result Message Refusal) → ℕ
+second_in (Err r) = 0
+second_in (Ok m) = second_of m
 
 -- "Turned away: 19 ..; then 20 ..; then 21"; otherwise the message
-unfoldable pub parsed : (s : List ℕ) → Parsed
+unfoldable pub parsed : (s : List ℕ) → Result Message Refusal
 parsed s =
-    when wrong_length s then Refused 19
-    else when wrong_version s then Refused 20
+    when wrong_length s then Err FrameLength
+    else when wrong_version s then Err FrameVersion
     else formed (kind_byte s) (field_at s 4) (field_at s 8)
 
 -- the number that an input is turned away with, 0 where it is not
 abbrev pub frame_refusal : (s : List ℕ) → ℕ
-frame_refusal s = refusal_in (parsed s)
+frame_refusal s = number_in (parsed s)
 
 -- "The reader hands back the part behind the frame, empty when refused": at which byte of the input it starts, and its bytes. The empty
 -- part of a refused input lies at its start.

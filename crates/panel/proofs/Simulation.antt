@@ -8,6 +8,7 @@ use mathlib.Core.List.{List}
 use lib.ListN.{get_or, set}
 use lib.Seq.{get_or-set_other}
 use Rattle.suits.specs.declared.Suit.{Suit}
+use Rattle.std.proofs.Common.{Option, Some, None}
 use borrow.Author.Tests.{eq-eqb}
 use Rattle.base.proofs.Cases.{clash, by_cases}
 use Rattle.base.proofs.Choices.{on_true, on_false, by_test}
@@ -17,7 +18,6 @@ use Rattle.register.specs.declared.Department.{Department}
 use Rattle.register.specs.declared.Department.TheVariants.{Sails, Canvas}
 use Rattle.register.specs.declared.Register.{Register}
 use Rattle.register.specs.declared.StorageBox.{StorageBox}
-use Rattle.register.specs.declared.ReadAnswer.TheVariants.{Held, Outranked}
 use Rattle.register.specs.declared.ReadDone.{ReadDone}
 use Rattle.register.specs.declared.WriteDone.{WriteDone}
 use Rattle.register.proofs.RegisterLaws.{ReadCase, outranked, answered, read_case, takes_means, takes_not}
@@ -29,17 +29,16 @@ use Rattle.requests.specs.declared.Stage.TheVariants.{Waiting, Answered}
 use Rattle.requests.proofs.Standings.{waits_means, arrives_means}
 use Rattle.commands.specs.declared.Command.{Command}
 use Rattle.attempts.specs.Stations.{station0, is_active, is_reading, is_writing, is_in, with_state}
-use Rattle.attempts.specs.Rows.{row0, answer0, row_department, first_row, requests_of, new_row, answer_of, row_heard, requests_heard, best_from, revision_from, revision_of}
+use Rattle.attempts.specs.Rows.{row0, answer0, row_department, first_row, requests_of, new_row, answer_of, row_heard, requests_heard, revision_from, revision_of}
 use Rattle.attempts.specs.Rows as rows
 use Rattle.attempts.specs.Claims.{nothing, highest}
 use Rattle.attempts.specs.Claims as attempts
-use Rattle.attempts.specs.declared.rows.Best.{Best}
-use Rattle.attempts.specs.declared.Answer.{Answer}
+use Rattle.register.specs.declared.Answer.{Answer}
 use Rattle.attempts.specs.declared.Row as concrete
 use Rattle.attempts.specs.declared.State.{State}
 use Rattle.attempts.specs.declared.State.TheVariants as state
 use Rattle.attempts.specs.declared.Station as seated
-use Rattle.attempts.proofs.Answers.{best_found, revision_offer, revision_value}
+use Rattle.attempts.proofs.AnswerLaws.{best_found, revision_offer, revision_value}
 use Rattle.attempts.proofs.StationTests.{is_reading_lem, is_writing_lem, is_idle}
 use Rattle.floor.specs.Floors.{box_at, station_at, row_at, owner_at, register_at, department_at, InUse, with_register, with_row}
 use Rattle.floor.specs.Departments.{Belonging, only, shared, department_of, is_only, SameFor, Owned}
@@ -156,12 +155,12 @@ module _ {f : Floor} (a b : ℕ) (y : Lengths f) (z : Sound f) where
     read_done : {x : ReadDone} → ReadCase held rank x → StepIn own f (floor_asked x) (machine.served Read a b (is_held x.answer))
     read_done (outranked h) =
         machine.tell h (box_kept own f y b _ box_below (box_own own (box_at f b) held (box_at f b).away))
-        (asked_moved (record { register = held; answer = Outranked }) (λ t. clash t refl)) (λ j. refl)
+        (asked_moved (record { register = held; answer = None }) (λ t. clash t refl)) (λ j. refl)
     read_done (answered h k) =
         let got : Register = record { read = rank; write = held.write; value = held.value } in
         machine.answer (box_edit own f y b _ box_below (read_box rank)
         (ap box_of (box_own own (box_at f b) got (box_at f b).away) ∙ ap (λ (i : ℕ). record { read_rank = i; write_rank = held.write; value = held.value }) (sym (max-eq_right h))))
-        (asked_moved (record { register = got; answer = Held held.write held.value }) (λ _. (refl, refl))) (λ j. refl)
+        (asked_moved (record { register = got; answer = Some (record { rank = held.write; value = held.value }) }) (λ _. (refl, refl))) (λ j. refl)
 
   module _ (d : CanServe f Write a b) where
     waits : (slot_at (row_at f a).write b).stage ≡ Waiting
@@ -281,13 +280,13 @@ module _ {f : Floor} (a b : ℕ) (o : Owned f) (y : Lengths f) (z : Sound f) whe
       highest : Highest f.n (row_of issued_row) found
       makes : figure1.Makes w.offer found.rank found.value value
 
-    chooses : {x : Best} → attempts.Found w.answers w.read f.n x → value ≡ revision_from x w.offer → Chooses
+    chooses : {x : Option Answer} → attempts.Found w.answers w.read f.n x → value ≡ revision_from x w.offer → Chooses
     unfolding rows.issued
     chooses (nothing h) e = let m = majority_meet (agreed_asks w.read f.n q t).majority (agreed_asks w.read f.n q t).majority in clash m.2.1 (h m.0 m.1)
     chooses (highest {b = c} h m top _) e = let u = get_or w.answers c answer0 in record {
       found = found_in u;
       highest = record { box = c; below = h; heard = m; is = refl; top = top };
-      makes = (λ k. e ∙ revision_offer (best_from u) w.offer k, λ k. e ∙ revision_value (best_from u) w.offer k);
+      makes = (λ k. e ∙ revision_offer (Some u) w.offer k, λ k. e ∙ revision_value (Some u) w.offer k);
     }
 
     issue_step : StepIn of f (after_issue f a w value) (machine.issued a b value)

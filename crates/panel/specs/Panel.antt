@@ -9,7 +9,7 @@ use Rattle.register.specs.declared.Department.{Department}
 use Rattle.register.specs.declared.Department.TheVariants.{Sails, Canvas}
 use Rattle.register.specs.declared.Register.{Register}
 use Rattle.attempts.specs.Rows.{answer0, row_department}
-use Rattle.attempts.specs.declared.Answer.{Answer}
+use Rattle.register.specs.declared.Answer.{Answer}
 use Rattle.attempts.specs.declared.Row as concrete
 use Rattle.attempts.specs.declared.State.{State}
 use Rattle.attempts.specs.declared.State.TheVariants.{Idle, Reading, Writing, Decided, Gone}

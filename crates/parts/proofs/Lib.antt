@@ -1,3 +1,1 @@
-pub mod NamedLaws
 pub mod EffectNeeds
-pub mod DeliverLaws

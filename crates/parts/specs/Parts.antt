@@ -1,9 +1,11 @@
--- Internal. The parts of a floor that the loop of `steps` reads for one step and stores behind it, and the step on these alone: words of
+-- Internal. The parts of a floor that `turn` of `steps` reads for one step and stores behind it, and the step on these alone: words of
 -- private contracts. No promise rests on this file: what a step is on a floor stands in crates/floor/specs, and crates/floor/proofs/Joins
 -- shows that on a sound floor the two are the same.
-use Rattle.std.specs.Prelude.{ℕ, ◌+◌, max, Bool, true, false, eqb, leb}
+use Rattle.std.specs.Prelude.{ℕ, ◌+◌, max, Bool, true, false, eqb, leb, Some}
 use Rattle.base.specs.Choice.{when◌then◌else◌}
 use Rattle.base.specs.Numbers.{rank_of}
+use Rattle.base.specs.Refusals.{named}
+use Rattle.base.specs.declared.Refusal.{Refusal}
 use Rattle.suits.specs.declared.Suit.{Suit}
 use Rattle.register.specs.declared.Register.{Register}
 use Rattle.requests.specs.Requests.{of_phase, standing_of, is_waiting, is_on_the_way, verdict_of}
@@ -12,11 +14,11 @@ use Rattle.requests.specs.declared.Verdict.{Verdict}
 use Rattle.requests.specs.declared.Verdict.TheVariants.{Open, Yes, No}
 use Rattle.commands.specs.declared.Command.{Command}
 use Rattle.commands.specs.declared.Command.TheVariants.{Begin, Serve, Deliver, Stop, Leave, Return, Malformed}
+use Rattle.commands.specs.declared.Outcome.{Outcome}
 use Rattle.commands.specs.declared.Outcome.TheVariants as said
 use Rattle.attempts.specs.Stations.{is_gone, is_busy, is_in, with_state}
 use Rattle.attempts.specs.Rows.{requests_of, new_row, revision_of, used_after, issued, row_served, register_served, requests_heard, row_heard}
 use Rattle.attempts.specs.declared.State.TheVariants as state
-use Rattle.attempts.specs.declared.Decision.TheVariants.{Revision}
 use Rattle.attempts.specs.declared.Station.{Station}
 use Rattle.attempts.specs.declared.Row.{Row}
 use Rattle.parts.specs.declared.Parts.{Parts}
@@ -138,7 +140,7 @@ aborted_by x a w = record { parts = with_parts x w x.register x.away (with_state
 abbrev pub decided_by : (x : Parts) (a : ℕ) (w : Row) → Changed
 decided_by x a w =
     record {
-      parts = with_parts x w x.register x.away (record { department = x.station.department; state = state.Decided a; last = x.station.last; decided = Revision w.written });
+      parts = with_parts x w x.register x.away (record { department = x.station.department; state = state.Decided a; last = x.station.last; decided = Some w.written });
       outcome = said.Decided w.written;
     }
 
@@ -162,8 +164,12 @@ returned_box x b = record { parts = with_parts x x.row x.register false x.statio
 abbrev pub gone_station : (x : Parts) (s : ℕ) → Changed
 gone_station x s = record { parts = with_parts x x.row x.register x.away (with_state x.station state.Gone); outcome = said.Gone s }
 
-abbrev pub turned_back : (x : Parts) (k : ℕ) → Changed
-turned_back x k = record { parts = x; outcome = said.Refused k }
+-- the parts after a step, and what it said
+abbrev pub changed : (parts : Parts) (outcome : Outcome) → Changed
+changed parts outcome = record { parts = parts; outcome = outcome }
+
+abbrev pub turned_back : (x : Parts) (r : Refusal) → Changed
+turned_back x r = record { parts = x; outcome = said.Refused r }
 
 abbrev pub effect_in : (x : Parts) (c : Command) → Changed
 effect_in x (Begin s round v) = begun x s round v
@@ -172,8 +178,8 @@ effect_in x (Deliver p a b) = delivered x p a b
 effect_in x (Stop b) = stopped_box x b
 effect_in x (Leave s) = gone_station x s
 effect_in x (Return b) = returned_box x b
-effect_in x Malformed = turned_back x 7
+effect_in x Malformed = turned_back x (named 7)
 
 -- the step, refused or accepted
 unfoldable pub change_in : (x : Parts) (c : Command) → Changed
-change_in x c = when eqb (refusal_in x c) 0 then effect_in x c else turned_back x (refusal_in x c)
+change_in x c = when eqb (refusal_in x c) 0 then effect_in x c else turned_back x (named (refusal_in x c))

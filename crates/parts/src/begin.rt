@@ -1,72 +1,47 @@
 // A begin on the parts that it looks at: its refusal, and its effect where it is accepted.
-ghost use Rattle.std.specs.Prelude.{◌≡◌, max};
-ghost use Rattle.parts.specs.Parts.{begin_in, begun};
+ghost use Rattle.std.specs.Prelude.{◌≡◌};
+ghost use Rattle.base.specs.Refusals.{number_in};
+ghost use Rattle.parts.specs.Parts.{begin_in, changed, begun};
 
-use crate::{Changed, Parts};
+use crate::Parts;
 use attempts::{State, Station};
+use base::Refusal;
 use commands::Outcome;
 use suits::Suit;
 
-pub(crate) fn begin_refusal(x: Parts, s: u8, round: u16) -> u8
-    ensures { result ≡ begin_in x s round }
+#[tactic(auto, using(base::proofs::Tests::picks), unfolding(crate::specs::Parts::begin_in))]
+pub(crate) fn begin_refusal(x: &Parts, s: u8, round: u16) -> Result<(), Refusal>
+    ensures { number_in result ≡ begin_in x.now s round }
 {
-    let st = x.station;
-    let state = st.state;
-    let gone = attempts::gone(state);
-    let busy = attempts::busy(state);
     if x.m <= s {
-        return 8;
+        return Err(Refusal::Unknown);
     }
-    if gone {
-        return 9;
+    if attempts::gone(x.station.state) {
+        return Err(Refusal::Gone);
     }
-    if busy {
-        return 10;
+    if attempts::busy(x.station.state) {
+        return Err(Refusal::Busy);
     }
-    if round == 0 {
-        return 11;
-    }
-    if round <= st.last {
-        return 11;
+    if round == 0 || round <= x.station.last {
+        return Err(Refusal::Round);
     }
     if 128 <= x.next {
-        return 12;
+        return Err(Refusal::NoRow);
     }
-    0
+    Ok(())
 }
 
-fn larger(x: u32, y: u32) -> u32
-    ensures { result ≡ max x y }
+#[tactic(auto, using(base::proofs::Tests::picks), unfolding(crate::specs::Parts::begun))]
+pub(crate) fn begin(x: &mut Parts, s: u8, round: u16, v: Suit) -> Outcome
+    ensures { changed x.new result ≡ begun x.old s round v }
 {
-    if x < y {
-        return y;
-    }
-    x
-}
-
-pub(crate) fn begin(x: Parts, s: u8, round: u16, v: Suit) -> Changed
-    ensures { result ≡ begun x s round v }
-{
-    let a = x.next;
-    let st = x.station;
-    let row = attempts::new_row(x.n, s, round, v);
-    let used = attempts::used_after(x.used);
-    let highest = larger(x.highest, (round as u32) * 16 + (s as u32));
-    let mut y = x;
-    y.used = used;
-    y.highest = highest;
-    y.row = row;
-    let department = st.department;
-    let decided = st.decided;
-    let station = Station {
-        department,
-        state: State::Reading(a),
+    x.used = attempts::used_after(x.used);
+    x.highest = x.highest.max(u32::from(round) * 16 + u32::from(s));
+    x.row = attempts::new_row(x.n, s, round, v);
+    x.station = Station {
+        state: State::Reading(x.next),
         last: round,
-        decided,
+        ..x.station
     };
-    y.station = station;
-    Changed {
-        parts: y,
-        outcome: Outcome::Begun(a),
-    }
+    Outcome::Begun(x.next)
 }

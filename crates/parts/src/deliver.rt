@@ -1,106 +1,83 @@
 // A delivery on the parts that it looks at: its refusal, and its effect where it is accepted.
 ghost use Rattle.std.specs.Prelude.{◌≡◌, ◌<◌};
-ghost use Rattle.parts.specs.Parts.{deliver_in, read_ended, decided_by, delivered};
+ghost use Rattle.base.specs.Refusals.{number_in};
+ghost use Rattle.parts.specs.Parts.{deliver_in, changed, read_ended, decided_by, heard_by, delivered};
 
-use crate::{Changed, Parts};
-use attempts::{Decision, Row, State, Station};
+use crate::Parts;
+use attempts::{Row, State, Station};
+use base::Refusal;
 use commands::Outcome;
 use requests::{Phase, Verdict};
 
-pub(crate) fn deliver_refusal(x: Parts, p: Phase, a: u8, b: u8) -> u8
-    ensures { result ≡ deliver_in x p a b }
+#[tactic(auto, using(base::proofs::Tests::picks), unfolding(crate::specs::Parts::deliver_in))]
+pub(crate) fn deliver_refusal(x: &Parts, p: Phase, a: u8, b: u8) -> Result<(), Refusal>
+    ensures { number_in result ≡ deliver_in x.now p a b }
 {
-    let st = x.station;
-    let state = st.state;
-    let w = x.row;
-    let gone = attempts::gone(state);
-    let unknown = super::named::unknown(x.first, x.used, x.n, a, b);
-    if unknown {
-        return 8;
+    if super::named::unknown(x, a, b) {
+        return Err(Refusal::Unknown);
     }
-    if gone {
-        return 9;
+    if attempts::gone(x.station.state) {
+        return Err(Refusal::Gone);
     }
-    if !attempts::comes(w, p, b) {
-        return 14;
+    if !attempts::comes(x.row, p, b) {
+        return Err(Refusal::NotDue);
     }
-    0
+    Ok(())
 }
 
 // The q-th read answer: the write is issued.
-fn read_ended(x: Parts, a: u8, w: Row) -> Changed
-    ensures { result ≡ read_ended x a w }
+#[tactic(auto, using(base::proofs::Tests::picks), unfolding(crate::specs::Parts::read_ended))]
+fn read_ended(x: &mut Parts, a: u8, w: Row) -> Outcome
+    ensures { changed x.new result ≡ read_ended x.old a w }
 {
-    let st = x.station;
     let v = attempts::revision_of(w, x.n);
-    let row = attempts::issue(w, v, x.n);
-    let mut y = x;
-    y.row = row;
-    let station = attempts::with_state(st, State::Writing(a));
-    y.station = station;
-    Changed {
-        parts: y,
-        outcome: Outcome::WriteIssued(v),
-    }
+    x.row = attempts::issue(w, v, x.n);
+    x.station = attempts::with_state(x.station, State::Writing(a));
+    Outcome::WriteIssued(v)
 }
 
 // The q-th write answer, all taken: the station decides.
-fn decided(x: Parts, a: u8, w: Row) -> Changed
-    ensures { result ≡ decided_by x a w }
+fn decided(x: &mut Parts, a: u8, w: Row) -> Outcome
+    ensures { changed x.new result ≡ decided_by x.old a w }
 {
-    let st = x.station;
-    let mut y = x;
-    y.row = w;
-    let department = st.department;
-    let v = w.written;
-    let station = Station {
-        department,
+    x.row = w;
+    x.station = Station {
         state: State::Decided(a),
-        last: st.last,
-        decided: Decision::Revision(v),
+        decided: Some(w.written),
+        ..x.station
     };
-    y.station = station;
-    Changed {
-        parts: y,
-        outcome: Outcome::Decided(v),
+    Outcome::Decided(w.written)
+}
+
+// What came of the answers received in the phase that the station is in; w is the row with this one.
+fn heard(x: &mut Parts, p: Phase, a: u8, w: Row, verdict: Verdict) -> Outcome
+    ensures { changed x.new result ≡ heard_by x.old p a w verdict }
+{
+    match (verdict, p) {
+        (Verdict::Open, _) => {
+            x.row = w;
+            Outcome::Received(a)
+        }
+        (Verdict::No, _) => {
+            x.row = w;
+            x.station = attempts::with_state(x.station, State::Idle);
+            Outcome::Aborted(a)
+        }
+        (Verdict::Yes, Phase::Read) => read_ended(x, a, w),
+        (Verdict::Yes, Phase::Write) => decided(x, a, w),
     }
 }
 
-pub(crate) fn deliver(x: Parts, p: Phase, a: u8, b: u8) -> Changed
+#[tactic(auto, using(base::proofs::Tests::picks), unfolding(crate::specs::Parts::delivered))]
+pub(crate) fn deliver(x: &mut Parts, p: Phase, a: u8, b: u8) -> Outcome
     requires { b < 9 }
-    ensures { result ≡ delivered x p a b }
+    ensures { changed x.new result ≡ delivered x.old p a b }
 {
-    let st = x.station;
-    let state = st.state;
-    let old = x.row;
-    let asked = attempts::requests_of(old, p);
-    let h = requests::received(asked, b);
-    let w = attempts::with_requests(old, p, h);
-    let mut y = x;
-    y.row = w;
-    if !attempts::in_phase(state, p, a) {
-        return Changed {
-            parts: y,
-            outcome: Outcome::Received(a),
-        };
+    let h = requests::received(attempts::requests_of(x.row, p), b);
+    let w = attempts::with_requests(x.row, p, h);
+    if attempts::in_phase(x.station.state, p, a) {
+        return heard(x, p, a, w, requests::verdict_of(h, p, x.n));
     }
-    let verdict = requests::verdict_of(h, p, x.n);
-    match verdict {
-        Verdict::Open => Changed {
-            parts: y,
-            outcome: Outcome::Received(a),
-        },
-        Verdict::No => {
-            let station = attempts::with_state(st, State::Idle);
-            y.station = station;
-            Changed {
-                parts: y,
-                outcome: Outcome::Aborted(a),
-            }
-        }
-        Verdict::Yes => match p {
-            Phase::Read => read_ended(x, a, w),
-            Phase::Write => decided(x, a, w),
-        },
-    }
+    x.row = w;
+    Outcome::Received(a)
 }

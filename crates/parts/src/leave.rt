@@ -1,35 +1,29 @@
 // The going of a station on the parts that it looks at: its refusal, and its effect where it is accepted.
 ghost use Rattle.std.specs.Prelude.{◌≡◌};
-ghost use Rattle.parts.specs.Parts.{leave_in, gone_station};
+ghost use Rattle.base.specs.Refusals.{number_in};
+ghost use Rattle.parts.specs.Parts.{leave_in, changed, gone_station};
 
-use crate::{Changed, Parts};
+use crate::Parts;
 use attempts::State;
+use base::Refusal;
 use commands::Outcome;
 
-pub(crate) fn leave_refusal(x: Parts, s: u8) -> u8
-    ensures { result ≡ leave_in x s }
+#[tactic(auto, using(base::proofs::Tests::picks), unfolding(crate::specs::Parts::leave_in))]
+pub(crate) fn leave_refusal(x: &Parts, s: u8) -> Result<(), Refusal>
+    ensures { number_in result ≡ leave_in x.now s }
 {
-    let st = x.station;
-    let state = st.state;
-    let gone = attempts::gone(state);
     if x.m <= s {
-        return 8;
+        return Err(Refusal::Unknown);
     }
-    if gone {
-        return 9;
+    if attempts::gone(x.station.state) {
+        return Err(Refusal::Gone);
     }
-    0
+    Ok(())
 }
 
-pub(crate) fn leave(x: Parts, s: u8) -> Changed
-    ensures { result ≡ gone_station x s }
+pub(crate) fn leave(x: &mut Parts, s: u8) -> Outcome
+    ensures { changed x.new result ≡ gone_station x.old s }
 {
-    let st = x.station;
-    let mut y = x;
-    let station = attempts::with_state(st, State::Gone);
-    y.station = station;
-    Changed {
-        parts: y,
-        outcome: Outcome::Gone(s),
-    }
+    x.station = attempts::with_state(x.station, State::Gone);
+    Outcome::Gone(s)
 }

@@ -1,5 +1,5 @@
-// Internal to `steps`: the parts of a floor that one step reads and stores, and the step on these alone, by value. The loop of `steps`
-// is the one place that reads them out of a floor and stores them into it, so that no whole floor is moved for a step.
+// Internal to `steps`: the parts of a floor that one step reads and stores, and the step on these alone. `turn` of `steps` is the one place
+// that reads them out of a floor and stores them into it, so that no whole floor is moved for a step.
 #![tactic(auto)]
 
 ghost use Rattle.std.specs.Prelude.{◌≡◌};
@@ -21,7 +21,8 @@ pub use kinds::change;
 
 // The parts of a floor that one step looks at, and all that it can change: of a department's things those of its own department. `first`
 // is the department's first row, `used` how many of its rows are in use, `highest` its highest rank begun, and `register` the box's
-// record for it. `next` is the row that a begin takes, 128 or above where there is none; no step but a begin looks at it.
+// record for it. `next` is the row that a begin takes, 128 or above where there is none, as `next_row` of
+// `steps` says it; no step but a begin looks at it.
 #[derive(Clone, Copy)]
 pub struct Parts {
     pub n: u8,
@@ -36,37 +37,9 @@ pub struct Parts {
     pub station: Station,
 }
 
-// The parts after a step, and what came of it.
+// The parts after a step, and what came of it: what definitions speak of. `change` changes the parts where they are.
 #[derive(Clone, Copy)]
 pub struct Changed {
     pub parts: Parts,
     pub outcome: Outcome,
-}
-
-pub fn gathered(
-    n: u8,
-    m: u8,
-    first: u8,
-    used: u8,
-    next: u8,
-    highest: u32,
-    row: Row,
-    register: Register,
-    away: bool,
-    station: Station,
-) -> Parts
-    ensures { result ≡ record { n = n; m = m; first = first; used = used; next = next; highest = highest; row = row; register = register; away = away; station = station } }
-{
-    Parts {
-        n,
-        m,
-        first,
-        used,
-        next,
-        highest,
-        row,
-        register,
-        away,
-        station,
-    }
 }

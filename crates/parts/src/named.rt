@@ -2,12 +2,12 @@
 ghost use Rattle.std.specs.Prelude.{◌≡◌, ◌+◌, true, leb};
 ghost use Rattle.base.specs.Choice.{when◌then◌else◌};
 
+use crate::Parts;
+
 // The attempt is not begun in its department, or there is no such box: refusal 8 of a serve and of a delivery.
-pub(crate) fn unknown(first: u8, used: u8, n: u8, a: u8, b: u8) -> bool
-    ensures { result ≡ (when leb (first + used) a then true else leb n b) }
+#[tactic(auto, using(base::proofs::Tests::picks))]
+pub(crate) fn unknown(x: &Parts, a: u8, b: u8) -> bool
+    ensures { result ≡ (when leb (x.now.first + x.now.used) a then true else leb x.now.n b) }
 {
-    if (first as u16) + (used as u16) <= a as u16 {
-        return true;
-    }
-    n <= b
+    u16::from(x.first) + u16::from(x.used) <= u16::from(a) || x.n <= b
 }

@@ -1,29 +1,28 @@
 // The return of a box on the parts that it looks at: its refusal, and its effect where it is accepted.
 ghost use Rattle.std.specs.Prelude.{◌≡◌};
-ghost use Rattle.parts.specs.Parts.{return_in, returned_box};
+ghost use Rattle.base.specs.Refusals.{number_in};
+ghost use Rattle.parts.specs.Parts.{return_in, changed, returned_box};
 
-use crate::{Changed, Parts};
+use crate::Parts;
+use base::Refusal;
 use commands::Outcome;
 
-pub(crate) fn return_refusal(x: Parts, b: u8) -> u8
-    ensures { result ≡ return_in x b }
+#[tactic(auto, using(base::proofs::Tests::picks), unfolding(crate::specs::Parts::return_in))]
+pub(crate) fn return_refusal(x: &Parts, b: u8) -> Result<(), Refusal>
+    ensures { number_in result ≡ return_in x.now b }
 {
     if x.n <= b {
-        return 8;
+        return Err(Refusal::Unknown);
     }
     if !x.away {
-        return 23;
+        return Err(Refusal::NotAway);
     }
-    0
+    Ok(())
 }
 
-pub(crate) fn returned(x: Parts, b: u8) -> Changed
-    ensures { result ≡ returned_box x b }
+pub(crate) fn returned(x: &mut Parts, b: u8) -> Outcome
+    ensures { changed x.new result ≡ returned_box x.old b }
 {
-    let mut y = x;
-    y.away = false;
-    Changed {
-        parts: y,
-        outcome: Outcome::Back(b),
-    }
+    x.away = false;
+    Outcome::Back(b)
 }

@@ -1,41 +1,35 @@
 // A serve on the parts that it looks at: its refusal, and its effect where it is accepted.
 ghost use Rattle.std.specs.Prelude.{◌≡◌};
-ghost use Rattle.parts.specs.Parts.{serve_in, served};
+ghost use Rattle.base.specs.Refusals.{number_in};
+ghost use Rattle.parts.specs.Parts.{serve_in, changed, served};
 
-use crate::{Changed, Parts};
+use crate::Parts;
+use base::Refusal;
 use commands::Outcome;
 use requests::Phase;
 
-pub(crate) fn serve_refusal(x: Parts, p: Phase, a: u8, b: u8) -> u8
-    ensures { result ≡ serve_in x p a b }
+#[tactic(auto, using(base::proofs::Tests::picks), unfolding(crate::specs::Parts::serve_in))]
+pub(crate) fn serve_refusal(x: &Parts, p: Phase, a: u8, b: u8) -> Result<(), Refusal>
+    ensures { number_in result ≡ serve_in x.now p a b }
 {
-    let w = x.row;
-    let unknown = super::named::unknown(x.first, x.used, x.n, a, b);
-    if unknown {
-        return 8;
+    if super::named::unknown(x, a, b) {
+        return Err(Refusal::Unknown);
     }
     if x.away {
-        return 13;
+        return Err(Refusal::Away);
     }
-    if !attempts::waits(w, p, b) {
-        return 14;
+    if !attempts::waits(x.row, p, b) {
+        return Err(Refusal::NotDue);
     }
-    0
+    Ok(())
 }
 
-pub(crate) fn serve(x: Parts, p: Phase, a: u8, b: u8) -> Changed
-    ensures { result ≡ served x p a b }
+#[tactic(auto, using(base::proofs::Tests::picks), unfolding(crate::specs::Parts::served))]
+pub(crate) fn serve(x: &mut Parts, p: Phase, a: u8, b: u8) -> Outcome
+    ensures { changed x.new result ≡ served x.old p a b }
 {
-    let held = x.register;
-    let w = x.row;
-    let done = attempts::serve(w, held, p, b);
-    let row = done.row;
-    let after = done.register;
-    let mut y = x;
-    y.row = row;
-    y.register = after;
-    Changed {
-        parts: y,
-        outcome: Outcome::Served(a),
-    }
+    let done = attempts::serve(x.row, x.register, p, b);
+    x.row = done.row;
+    x.register = done.register;
+    Outcome::Served(a)
 }

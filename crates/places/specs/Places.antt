@@ -1,4 +1,4 @@
--- The places of a floor's arrays that a command names: what the loop of a floor reads and stores. How long an array is, `limit`, is handed in.
+-- The places of a floor's arrays that a command names: what a step reads out of a floor and stores into it. How long an array is, `limit`, is handed in.
 use Rattle.std.specs.Prelude.{ℕ, ltb}
 use Rattle.base.specs.Choice.{when◌then◌else◌}
 use Rattle.commands.specs.declared.Command.{Command}

@@ -1,13 +1,8 @@
--- Document 02, wish 5: "the free row with the smallest rank, of equals the lowest", looked for one row after the other. How many rows there are,
--- `limit`, is handed in.
-use Rattle.std.specs.Prelude.{ℕ, Bool, true, ltb}
-use Rattle.base.specs.Choice.{when◌then◌else◌}
+-- Document 02, wish 5: "the free row with the smallest rank, of equals the lowest", looked for one row after the other.
+use Rattle.std.specs.Prelude.{ℕ, Bool, true, ltb, Option, Some, None}
 use Rattle.places.specs.declared.Lowest.{Lowest}
 
 -- the rank is smaller than that of the row found so far, or none was found
-unfoldable pub lower_in : (limit : ℕ) (x : Lowest) (rank : ℕ) → Bool
-lower_in limit x rank = when ltb x.row limit then ltb rank x.rank else true
-
--- none was found
-abbrev pub no_row : (limit : ℕ) → Lowest
-no_row limit = record { row = limit; rank = 0 }
+unfoldable pub lower_in : (x : Option Lowest) (rank : ℕ) → Bool
+lower_in (Some x) rank = ltb rank x.rank
+lower_in None rank = true

@@ -8,7 +8,7 @@ ghost use Rattle.places.specs.Search.{lower_in};
 
 use commands::Command;
 
-// The free row of the smallest rank found so far, and that rank. Where none was found the row is the number of all rows.
+// The free row of the smallest rank found so far, and that rank.
 #[derive(Clone, Copy)]
 pub struct Lowest {
     pub row: u8,
@@ -16,13 +16,11 @@ pub struct Lowest {
 }
 
 // A place of an array of that length: the number itself where it is one, else 0.
+#[tactic(auto, using(base::proofs::Tests::picks), unfolding(crate::specs::Places::place_in))]
 fn place(limit: u8, x: u8) -> u8
     ensures { result ≡ place_in limit x }
 {
-    if x < limit {
-        return x;
-    }
-    0
+    if x < limit { x } else { 0 }
 }
 
 fn attempt_in(next: u8, c: Command) -> u8
@@ -30,12 +28,8 @@ fn attempt_in(next: u8, c: Command) -> u8
 {
     match c {
         Command::Begin(_, _, _) => next,
-        Command::Serve(_, a, _) => a,
-        Command::Deliver(_, a, _) => a,
-        Command::Stop(_) => 0,
-        Command::Leave(_) => 0,
-        Command::Return(_) => 0,
-        Command::Malformed => 0,
+        Command::Serve(_, a, _) | Command::Deliver(_, a, _) => a,
+        Command::Stop(_) | Command::Leave(_) | Command::Return(_) | Command::Malformed => 0,
     }
 }
 
@@ -43,13 +37,9 @@ fn box_in(c: Command) -> u8
     ensures { result ≡ box_in c }
 {
     match c {
-        Command::Begin(_, _, _) => 0,
         Command::Serve(_, _, b) => b,
-        Command::Deliver(_, _, b) => b,
-        Command::Stop(b) => b,
-        Command::Leave(_) => 0,
-        Command::Return(b) => b,
-        Command::Malformed => 0,
+        Command::Deliver(_, _, b) | Command::Stop(b) | Command::Return(b) => b,
+        Command::Begin(_, _, _) | Command::Leave(_) | Command::Malformed => 0,
     }
 }
 
@@ -57,13 +47,9 @@ fn station_in(owner: u8, c: Command) -> u8
     ensures { result ≡ station_in owner c }
 {
     match c {
-        Command::Begin(s, _, _) => s,
-        Command::Serve(_, _, _) => owner,
-        Command::Deliver(_, _, _) => owner,
-        Command::Stop(_) => 0,
-        Command::Leave(s) => s,
-        Command::Return(_) => 0,
-        Command::Malformed => 0,
+        Command::Begin(s, _, _) | Command::Leave(s) => s,
+        Command::Serve(_, _, _) | Command::Deliver(_, _, _) => owner,
+        Command::Stop(_) | Command::Return(_) | Command::Malformed => 0,
     }
 }
 
@@ -88,11 +74,9 @@ pub fn station_place(limit: u8, owner: u8, c: Command) -> u8
 }
 
 // The rank is smaller than that of the row found so far, if there was one.
-pub fn lower(limit: u8, x: Lowest, rank: u32) -> bool
-    ensures { result ≡ lower_in limit x rank }
+#[tactic(auto, unfolding(crate::specs::Search::lower_in))]
+pub fn lower(x: Option<Lowest>, rank: u32) -> bool
+    ensures { result ≡ lower_in x rank }
 {
-    if x.row < limit {
-        return rank < x.rank;
-    }
-    true
+    x.is_none_or(|x| rank < x.rank)
 }

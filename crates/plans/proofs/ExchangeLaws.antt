@@ -6,7 +6,7 @@ use mathlib.Core.List.{List, [], ◌∷◌, ◌++◌, flatten}
 use lib.ListN.{length, take}
 use Rattle.base.specs.Bytes.{bytes_put}
 use Rattle.base.specs.Records.{IsRecord, AllRecords}
-use Rattle.base.proofs.PutLaws.{put_taken, two_put}
+use Rattle.base.proofs.PutLaws.{put_taken}
 use Rattle.requests.specs.declared.Phase.{Phase}
 use Rattle.commands.specs.Commands.{encode_of}
 use Rattle.commands.specs.Claims.{Fielded}
@@ -19,12 +19,6 @@ use Rattle.plans.specs.Plans.{exchange, exchanges}
 pub exchange_size : (p : Phase) (a b : ℕ) → length (flatten (exchange p a b)) ≡ 16
 unfolding exchange flatten
 exchange_size p a b = refl
-
--- put from a place on, its serve and then its delivery
-pub exchange_put : (s : List ℕ) (at : ℕ) (p : Phase) (a b : ℕ) → at + 16 ≤ length s
-    → bytes_put (bytes_put s at (encode_of (Serve p a b))) (at + 8) (encode_of (Deliver p a b)) ≡ bytes_put s at (flatten (exchange p a b))
-unfolding exchange flatten
-exchange_put s at p a b h = two_put s at (encode_of (Serve p a b)) (encode_of (Deliver p a b)) h
 
 -- what stands in front then
 pub exchange_taken : (s : List ℕ) (at : ℕ) (p : Phase) (a b : ℕ) → at + 16 ≤ length s

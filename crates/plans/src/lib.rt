@@ -10,29 +10,20 @@ use commands::Command;
 use requests::Phase;
 
 // The smallest round of at least 1 whose rank for the station passes h.
+#[tactic(auto, unfolding(crate::specs::Plans::round_above))]
 pub fn round_above(h: u32, s: u8) -> u32
     ensures { result ≡ round_above h s }
 {
-    let own = s as u32;
-    if h < own {
-        return 1;
-    }
-    ((h - own) >> 4) + 1
+    (h.saturating_sub(s as u32) >> 4) + 1
 }
 
 // Stores the records of two steps from a place on: attempt a's read or write is served at box b, and its answer is delivered. Past the end
-// nothing is stored.
+// nothing is stored. A lent buffer and a place in it are what the contract speaks of; nothing here takes a heap.
 pub fn put_exchange(out: &mut [u8], at: usize, p: Phase, a: u8, b: u8)
     ensures { out.new ≡ bytes_put out.old at (flatten (exchange p a b)) }
 {
-    if out.len() < 16 {
-        return;
-    }
-    if out.len() - 16 < at {
-        return;
-    }
-    let serve = commands::encode(Command::Serve(p, a, b));
-    let deliver = commands::encode(Command::Deliver(p, a, b));
-    base::put_bytes(out, at, &serve);
-    base::put_bytes(out, at + 8, &deliver);
+    let mut steps = [0; 16];
+    steps[..8].copy_from_slice(&commands::encode(Command::Serve(p, a, b)));
+    steps[8..].copy_from_slice(&commands::encode(Command::Deliver(p, a, b)));
+    base::put_bytes(out, at, &steps);
 }

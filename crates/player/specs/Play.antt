@@ -1,7 +1,8 @@
 -- Document 01, "The drill file": a file is played on the new floor of its n and m, record by record.
-use Rattle.std.specs.Prelude.{ℕ, List, [], eqb, length, replicate}
+use Rattle.std.specs.Prelude.{ℕ, List, [], eqb, length, replicate, Some}
 use Rattle.base.specs.Choice.{when◌then◌else◌}
 use Rattle.base.specs.Numbers.{rank_of}
+use Rattle.base.specs.Refusals.{named}
 use Rattle.floor.specs.Floors.{empty_floor, new_floor_of}
 use Rattle.floor.specs.Runs.{played_on}
 use Rattle.floor.specs.declared.Played.{Played}
@@ -20,7 +21,7 @@ told_in file = told_from (stations_of file) (departments_of file)
 unfoldable pub played_of : (file : List ℕ) → Played
 played_of file =
     when eqb (file_refusal file) 0 then played_on (new_floor_of (boxes_of file) (stations_of file) (told_in file)).floor (records_of file)
-    else record { floor = empty_floor 1 1 []; accepted = 0; refusal = file_refusal file }
+    else record { floor = empty_floor 1 1 []; accepted = 0; refusal = Some (named (file_refusal file)) }
 
 -- "rank of its last attempt (0 if none)", from the station's last round and its number
 unfoldable pub last_rank : (last station : ℕ) → ℕ

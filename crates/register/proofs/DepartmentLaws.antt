@@ -28,11 +28,11 @@ box_same Sails x = refl
 box_same Canvas x = refl
 
 -- and one that is put away or brought back keeps both records, whichever department stores it
-pub box_moved : (d : Department) (x : StorageBox) (t : Bool) → box_with d x (register_of d x) t ≡ record { sails = x.sails; canvas = x.canvas; away = t }
+pub box_moved : (d : Department) (x : StorageBox) (t : Bool) → box_with d x (register_of d x) t ≡ record { registers = x.registers; away = t }
 box_moved Sails x t = refl
 box_moved Canvas x t = refl
 
-pub register_moved : (d : Department) (x : StorageBox) (t : Bool) → register_of d (record { sails = x.sails; canvas = x.canvas; away = t }) ≡ register_of d x
+pub register_moved : (d : Department) (x : StorageBox) (t : Bool) → register_of d (record { registers = x.registers; away = t }) ≡ register_of d x
 register_moved Sails x t = refl
 register_moved Canvas x t = refl
 

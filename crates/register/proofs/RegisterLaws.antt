@@ -5,13 +5,13 @@ use mathlib.Core.Logic.{◌⊎◌, inl, inr}
 use mathlib.Core.Bool.{Bool, true, false}
 use native.Mathlib.Nat.{le_refl, le-max_left, max-eq_right}
 use lib.Dec.{leb, ltb}
+use Rattle.std.proofs.Common.{Some, None}
 use borrow.Author.Tests.{leb-true, leb-false, ltb-true, ltb-false, le-leb, le-ltb, lt-ltb}
 use Rattle.base.proofs.Cases.{clash, by_cases}
 use Rattle.base.proofs.Choices.{on_true, on_false, by_test, both_true, both_false}
 use Rattle.suits.specs.declared.Suit.{Suit}
 use Rattle.register.specs.Register.{outranks, is_held, rmw_read, takes, rmw_write}
 use Rattle.register.specs.declared.Register.{Register}
-use Rattle.register.specs.declared.ReadAnswer.TheVariants.{Held, Outranked}
 use Rattle.register.specs.declared.ReadDone.{ReadDone}
 use Rattle.register.specs.declared.WriteDone.{WriteDone}
 
@@ -32,17 +32,17 @@ module _ (x : Register) (r : ℕ) where
   outranks_none p q = sym (on_false _ (le-ltb _ _ p) (sym (le-ltb _ _ q)))
 
   -- a read that is outranked says so and changes nothing
-  pub read_outranked : outranks x r ≡ true → rmw_read x r ≡ record { register = x; answer = Outranked }
+  pub read_outranked : outranks x r ≡ true → rmw_read x r ≡ record { register = x; answer = None }
   unfolding rmw_read
   read_outranked e = sym (on_true _ e refl)
 
   -- any other makes its rank the read rank and answers what is held
   pub read_answered : outranks x r ≡ false
-      → rmw_read x r ≡ record { register = record { read = r; write = x.write; value = x.value }; answer = Held x.write x.value }
+      → rmw_read x r ≡ record { register = record { read = r; write = x.write; value = x.value }; answer = Some (record { rank = x.write; value = x.value }) }
   unfolding rmw_read
   read_answered e =
       sym (on_false _ e refl)
-      ∙ ap (λ (k : ℕ). record { register = record { read = k; write = x.write; value = x.value }; answer = Held x.write x.value })
+      ∙ ap (λ (k : ℕ). record { register = record { read = k; write = x.write; value = x.value }; answer = Some (record { rank = x.write; value = x.value }) })
       (max-eq_right (outranks_not e).0)
 
   -- no read lowers the read rank, and none changes what is held
@@ -94,9 +94,9 @@ module _ (x : Register) (r : ℕ) where
 
 -- a read by its two cases
 pub data ReadCase (x : Register) (r : ℕ) : ReadDone → Type 0 where
-  outranked : (r < x.read) ⊎ (r < x.write) → ReadCase x r (record { register = x; answer = Outranked })
+  outranked : (r < x.read) ⊎ (r < x.write) → ReadCase x r (record { register = x; answer = None })
   answered : x.read ≤ r → x.write ≤ r
-      → ReadCase x r (record { register = record { read = r; write = x.write; value = x.value }; answer = Held x.write x.value })
+      → ReadCase x r (record { register = record { read = r; write = x.write; value = x.value }; answer = Some (record { rank = x.write; value = x.value }) })
 
 pub read_case : (x : Register) (r : ℕ) → ReadCase x r (rmw_read x r)
 read_case x r =
@@ -111,3 +111,5 @@ kept_by (answered h k) e = clash refl e
 
 pub outranked_kept : (x : Register) (r : ℕ) → is_held (rmw_read x r).answer ≡ false → (rmw_read x r).register ≡ x
 outranked_kept x r = kept_by (read_case x r)
+
+pub ruleset reads = (read_outranked, read_answered)

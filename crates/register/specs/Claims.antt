@@ -1,9 +1,8 @@
 -- What is claimed of one ranked register. The proof is `register_claims` in proofs/Claims.
-use Rattle.std.specs.Prelude.{ℕ, ◌≤◌, ◌<◌, ◌≡◌, ◌⊎◌, true, false}
+use Rattle.std.specs.Prelude.{ℕ, ◌≤◌, ◌<◌, ◌≡◌, ◌⊎◌, true, false, Some, None}
 use Rattle.suits.specs.declared.Suit.{Suit}
 use Rattle.register.specs.Register.{outranks, rmw_read, takes, rmw_write}
 use Rattle.register.specs.declared.Register.{Register}
-use Rattle.register.specs.declared.ReadAnswer.TheVariants.{Held, Outranked}
 
 pub record RegisterClaims : Type 0 where
   -- "a read or write rank above r"
@@ -11,9 +10,9 @@ pub record RegisterClaims : Type 0 where
   pub outranks_not : (x : Register) (r : ℕ) → outranks x r ≡ false → (x.read ≤ r) × (x.write ≤ r)
   pub outranks_none : (x : Register) (r : ℕ) → x.read ≤ r → x.write ≤ r → outranks x r ≡ false
   -- a read that is outranked says so and changes nothing; any other makes its rank the read rank and answers what is held
-  pub read_outranked : (x : Register) (r : ℕ) → outranks x r ≡ true → rmw_read x r ≡ record { register = x; answer = Outranked }
+  pub read_outranked : (x : Register) (r : ℕ) → outranks x r ≡ true → rmw_read x r ≡ record { register = x; answer = None }
   pub read_answered : (x : Register) (r : ℕ) → outranks x r ≡ false
-      → rmw_read x r ≡ record { register = record { read = r; write = x.write; value = x.value }; answer = Held x.write x.value }
+      → rmw_read x r ≡ record { register = record { read = r; write = x.write; value = x.value }; answer = Some (record { rank = x.write; value = x.value }) }
   -- no read lowers the read rank, and none changes what is held
   pub read_rises : (x : Register) (r : ℕ) → x.read ≤ (rmw_read x r).register.read
   pub read_leaves : (x : Register) (r : ℕ) → ((rmw_read x r).register.write ≡ x.write) × ((rmw_read x r).register.value ≡ x.value)

@@ -1,15 +1,15 @@
 -- Document 01, "The box routine (Figure 3)", and wish 2 of document 02: one ranked register, its read and its write; and the box that
 -- keeps one for each department (wish 6).
-use Rattle.std.specs.Prelude.{ℕ, max, Bool, true, false, eqb, leb, ltb}
+use Rattle.std.specs.Prelude.{ℕ, max, Bool, true, false, eqb, leb, ltb, Option, Some, None, is_some, unwrap_or}
 use Rattle.base.specs.Choice.{when◌then◌else◌}
 use Rattle.suits.specs.Suits.{suit0}
 use Rattle.suits.specs.declared.Suit.{Suit}
 use Rattle.register.specs.declared.Department.{Department}
 use Rattle.register.specs.declared.Department.TheVariants.{Sails, Canvas}
+use Rattle.register.specs.declared.ByDepartment.{ByDepartment}
 use Rattle.register.specs.declared.Register.{Register}
 use Rattle.register.specs.declared.StorageBox.{StorageBox}
-use Rattle.register.specs.declared.ReadAnswer.{ReadAnswer}
-use Rattle.register.specs.declared.ReadAnswer.TheVariants.{Held, Outranked}
+use Rattle.register.specs.declared.Answer.{Answer}
 use Rattle.register.specs.declared.ReadDone.{ReadDone}
 use Rattle.register.specs.declared.WriteDone.{WriteDone}
 
@@ -17,6 +17,11 @@ use Rattle.register.specs.declared.WriteDone.{WriteDone}
 abbrev pub of_department : {A : Type 0} (department : Department) (sails canvas : A) → A
 of_department Sails sails canvas = sails
 of_department Canvas sails canvas = canvas
+
+-- what both have, with that of the department replaced: that of the other stays
+abbrev pub departments_with : {A : Type 0} (department : Department) (x : A) (both : ByDepartment A) → ByDepartment A
+departments_with department x both =
+    record { sails = of_department department x both.sails; canvas = of_department department both.canvas x }
 
 -- whether two departments are the same
 abbrev pub is_of : (department other : Department) → Bool
@@ -32,16 +37,16 @@ abbrev pub register0 : Register
 register0 = record { read = 0; write = 0; value = suit0 }
 
 abbrev pub box0 : StorageBox
-box0 = record { sails = register0; canvas = register0; away = false }
+box0 = record { registers = record { sails = register0; canvas = register0 }; away = false }
 
 -- the record of the department
 abbrev pub register_of : (department : Department) (x : StorageBox) → Register
-register_of department x = of_department department x.sails x.canvas
+register_of department x = of_department department x.registers.sails x.registers.canvas
 
 -- the box x with the record of the department and whether it is away replaced: the record of the other stays
 abbrev pub box_with : (department : Department) (x : StorageBox) (register : Register) (away : Bool) → StorageBox
 box_with department x register away =
-    record { sails = of_department department register x.sails; canvas = of_department department x.canvas register; away = away }
+    record { registers = departments_with department register x.registers; away = away }
 
 -- Wish 2: "A box with a read or write rank above r". Equal ranks are not above.
 unfoldable pub outranks : (x : Register) (rank : ℕ) → Bool
@@ -51,26 +56,26 @@ outranks x rank = when ltb rank x.read then true else ltb rank x.write
 -- box with a read or write rank above r answers a read "outranked" and changes nothing".
 unfoldable pub rmw_read : (x : Register) (rank : ℕ) → ReadDone
 rmw_read x rank =
-    when outranks x rank then record { register = x; answer = Outranked }
-    else record { register = record { read = max x.read rank; write = x.write; value = x.value }; answer = Held x.write x.value }
+    when outranks x rank then record { register = x; answer = None }
+    else record { register = record { read = max x.read rank; write = x.write; value = x.value }; answer = Some (record { rank = x.write; value = x.value }) }
 
-abbrev pub is_held : (answer : ReadAnswer) → Bool
-is_held (Held w v) = true
-is_held Outranked = false
+abbrev pub is_held : (answer : Option Answer) → Bool
+is_held answer = is_some answer
 
 -- A read's answer in numbers: what it "returns" from C, and the write rank and the value of the reply. Wish 2: outranked "it returns 100 and
--- zeroes the reply".
-abbrev pub number_in : (answer : ReadAnswer) → ℕ
-number_in (Held w v) = 0
-number_in Outranked = 100
+-- zeroes the reply". An answer of zeros is also what a read past the end of an array gives by the language's own rule.
+abbrev pub number_in : (answer : Option Answer) → ℕ
+number_in (Some a) = 0
+number_in None = 100
 
-abbrev pub rank_in : (answer : ReadAnswer) → ℕ
-rank_in (Held w v) = w
-rank_in Outranked = 0
+abbrev pub answer0 : Answer
+answer0 = record { rank = 0; value = suit0 }
 
-abbrev pub value_in : (answer : ReadAnswer) → Suit
-value_in (Held w v) = v
-value_in Outranked = suit0
+abbrev pub rank_in : (answer : Option Answer) → ℕ
+rank_in answer = (unwrap_or answer answer0).rank
+
+abbrev pub value_in : (answer : Option Answer) → Suit
+value_in answer = (unwrap_or answer answer0).value
 
 -- "if read rank ≤ r and write rank < r"
 unfoldable pub takes : (x : Register) (rank : ℕ) → Bool

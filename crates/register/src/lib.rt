@@ -2,8 +2,11 @@
 // read it.
 #![tactic(auto)]
 
-ghost use Rattle.std.specs.Prelude.{◌≡◌};
-ghost use Rattle.register.specs.Register.{register_of, box_with, outranks, is_held, rank_in, value_in, takes, rmw_read, rmw_write};
+ghost use Rattle.std.specs.Prelude.{◌≡◌, eqb, not, count_by};
+ghost use Rattle.base.specs.Choice.{when◌then◌else◌};
+ghost use Rattle.register.specs.declared.Department.TheVariants.{Sails, Canvas};
+ghost use Rattle.register.specs.declared.StorageBox.{StorageBox};
+ghost use Rattle.register.specs.Register.{of_department, departments_with, outranks, takes, rmw_read, rmw_write};
 
 use suits::Suit;
 
@@ -12,6 +15,60 @@ use suits::Suit;
 pub enum Department {
     Sails,
     Canvas,
+}
+
+// Its byte: 0 sails, 1 canvas.
+impl From<Department> for u8 {
+    ghost from_gives = { λ d b. b ≡ of_department d 0 1 };
+
+    fn from(d: Department) -> u8 {
+        match d {
+            Department::Sails => 0,
+            Department::Canvas => 1,
+        }
+    }
+}
+
+// The department of a byte: 0 is sails, any other canvas.
+impl From<u8> for Department {
+    ghost from_gives = { λ b d. d ≡ (when eqb b 0 then Sails else Canvas) };
+
+    #[tactic(auto, using(base::proofs::Tests::picks))]
+    fn from(byte: u8) -> Department {
+        if byte == 0 {
+            return Department::Sails;
+        }
+        Department::Canvas
+    }
+}
+
+// One thing of each department.
+#[derive(Clone, Copy)]
+pub struct ByDepartment<T> {
+    pub sails: T,
+    pub canvas: T,
+}
+
+impl<T: Copy> ByDepartment<T> {
+    // The one of the department.
+    pub fn of(self, d: Department) -> T
+        ensures { result ≡ of_department d self.sails self.canvas }
+    {
+        match d {
+            Department::Sails => self.sails,
+            Department::Canvas => self.canvas,
+        }
+    }
+
+    // With the department's replaced: that of the other stays.
+    pub fn with(self, d: Department, x: T) -> ByDepartment<T>
+        ensures { result ≡ departments_with d x self }
+    {
+        match d {
+            Department::Sails => ByDepartment { sails: x, ..self },
+            Department::Canvas => ByDepartment { canvas: x, ..self },
+        }
+    }
 }
 
 // What a box keeps: Figure 3's x, with rR (read), wR (write) and val (value). All are 0 at first.
@@ -25,149 +82,95 @@ pub struct Register {
 // A box: a ranked register for each department, and whether it is away (wish 8 of document 02), which both share.
 #[derive(Clone, Copy)]
 pub struct StorageBox {
-    pub sails: Register,
-    pub canvas: Register,
+    pub registers: ByDepartment<Register>,
     pub away: bool,
 }
 
-// What a read answers: the write rank and the value that are held, or that a higher rank was served (the nack of a phase 1).
+// What a read is answered: the write rank and the value that are held.
 #[derive(Clone, Copy)]
-pub enum ReadAnswer {
-    Held(u32, Suit),
-    Outranked,
+pub struct Answer {
+    pub rank: u32,
+    pub value: Suit,
 }
 
-// A read: the register after it, and its answer.
+// A read: the register after it, and its answer. There is none where a higher rank was served (the nack of a phase 1).
 #[derive(Clone, Copy)]
 pub struct ReadDone {
     pub register: Register,
-    pub answer: ReadAnswer,
+    pub answer: Option<Answer>,
 }
 
-// A write: the register after it, and its answer, whether it was taken.
+// A write: the register after it, and its answer, whether it was taken. No Option: the register stands there on either answer, and `taken`
+// is the whole of it.
 #[derive(Clone, Copy)]
 pub struct WriteDone {
     pub register: Register,
     pub taken: bool,
 }
 
-// The register that a box keeps for the department.
-pub fn register_of(x: StorageBox, d: Department) -> Register
-    ensures { result ≡ register_of d x }
+// How many of the boxes are not away.
+pub fn count_going(boxes: &[StorageBox]) -> usize
+    ensures { result ≡ count_by (λ (x : StorageBox). not x.away) boxes.now }
 {
-    match d {
-        Department::Sails => x.sails,
-        Department::Canvas => x.canvas,
-    }
+    boxes.iter().filter(|x| !x.away).count()
 }
 
-// The box with the department's register stored, and whether it is away; the other department's register stays.
-pub fn box_with(x: StorageBox, d: Department, register: Register, away: bool) -> StorageBox
-    ensures { result ≡ box_with d x register away }
-{
-    let mut y = x;
-    y.away = away;
-    match d {
-        Department::Sails => {
-            y.sails = register;
-            y
+impl Register {
+    // Whether the read rank or the write rank is above this one.
+    #[tactic(auto, using(base::proofs::Tests::picks), unfolding(crate::specs::Register::outranks))]
+    fn outranks(self, rank: u32) -> bool
+        ensures { result ≡ outranks self rank }
+    {
+        rank < self.read || rank < self.write
+    }
+
+    // Figure 3's rmw-read: the read rank becomes the rank. A read that is outranked changes nothing.
+    #[tactic(auto, using(crate::proofs::RegisterLaws::reads, base::proofs::Tests::tests))]
+    pub fn rmw_read(self, rank: u32) -> ReadDone
+        ensures { result ≡ rmw_read self rank }
+    {
+        if self.outranks(rank) {
+            return ReadDone {
+                register: self,
+                answer: None,
+            };
         }
-        Department::Canvas => {
-            y.canvas = register;
-            y
+        let held = Answer {
+            rank: self.write,
+            value: self.value,
+        };
+        ReadDone {
+            register: Register { read: rank, ..self },
+            answer: Some(held),
         }
     }
-}
 
-// Whether the read rank or the write rank is above this one.
-fn outranked(x: Register, rank: u32) -> bool
-    ensures { result ≡ outranks x rank }
-{
-    if x.read > rank {
-        return true;
+    // Whether a write of this rank is taken.
+    #[tactic(auto, using(base::proofs::Tests::picks), unfolding(crate::specs::Register::takes))]
+    fn takes(self, rank: u32) -> bool
+        ensures { result ≡ takes self rank }
+    {
+        self.read <= rank && self.write < rank
     }
-    x.write > rank
-}
 
-// Figure 3's rmw-read: the read rank becomes the rank. A read that is outranked changes nothing.
-pub fn rmw_read(x: Register, rank: u32) -> ReadDone
-    ensures { result ≡ rmw_read x rank }
-{
-    if !outranked(x, rank) {
-        let value = x.value;
-        let register = Register {
-            read: rank,
-            write: x.write,
-            value,
-        };
-        return ReadDone {
-            register,
-            answer: ReadAnswer::Held(x.write, value),
-        };
-    }
-    let register = x;
-    ReadDone {
-        register,
-        answer: ReadAnswer::Outranked,
-    }
-}
-
-// A read's answer is what is held, and not that it is outranked.
-pub fn held(a: ReadAnswer) -> bool
-    ensures { result ≡ is_held a }
-{
-    match a {
-        ReadAnswer::Held(_, _) => true,
-        ReadAnswer::Outranked => false,
-    }
-}
-
-// The write rank and the value in a read's answer, 0 where it is outranked.
-pub fn rank_in(a: ReadAnswer) -> u32
-    ensures { result ≡ rank_in a }
-{
-    match a {
-        ReadAnswer::Held(w, _) => w,
-        ReadAnswer::Outranked => 0,
-    }
-}
-
-pub fn value_in(a: ReadAnswer) -> Suit
-    ensures { result ≡ value_in a }
-{
-    match a {
-        ReadAnswer::Held(_, v) => v,
-        ReadAnswer::Outranked => suits::none(),
-    }
-}
-
-// Whether a write of this rank is taken: read rank ≤ rank and write rank < rank.
-fn taken_at(x: Register, rank: u32) -> bool
-    ensures { result ≡ takes x rank }
-{
-    if rank < x.read {
-        return false;
-    }
-    x.write < rank
-}
-
-// Figure 3's rmw-write: a write that is taken sets the write rank and the value, any other changes nothing.
-pub fn rmw_write(x: Register, rank: u32, revision: Suit) -> WriteDone
-    ensures { result ≡ rmw_write x rank revision }
-{
-    if !taken_at(x, rank) {
-        return WriteDone {
-            register: x,
+    // Figure 3's rmw-write: a write that is taken sets the write rank and the value, any other changes nothing.
+    #[tactic(auto, using(base::proofs::Tests::picks), unfolding(crate::specs::Register::rmw_write))]
+    pub fn rmw_write(self, rank: u32, revision: Suit) -> WriteDone
+        ensures { result ≡ rmw_write self rank revision }
+    {
+        if self.takes(rank) {
+            return WriteDone {
+                register: Register {
+                    write: rank,
+                    value: revision,
+                    ..self
+                },
+                taken: true,
+            };
+        }
+        WriteDone {
+            register: self,
             taken: false,
-        };
-    }
-    let register = Register {
-        read: x.read,
-        write: rank,
-        value: revision,
-    };
-    WriteDone {
-        register,
-        taken: true,
+        }
     }
 }

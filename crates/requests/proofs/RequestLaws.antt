@@ -1,7 +1,8 @@
 -- The laws of one phase: requests issued wait at every box below n; one served there is on its way; the q-th answer; all said yes.
-use Prim.Native.Nat.{ℕ, zero, suc, ◌≤◌, ◌<◌, min}
+use Prim.Native.Nat.{ℕ, zero, suc, ◌+◌, ◌≤◌, ◌<◌, min}
 use native.Mathlib.Nat.{min-eq_left, min-eq_right}
 use native.Mathlib.Omega.{arith}
+use native.Mathlib.Numerals.{add-one}
 use mathlib.Core.Path.{◌≡◌, refl, sym, ap, ◌∙◌}
 use mathlib.Core.Logic.{◌⊎◌, inl, inr}
 use mathlib.Core.Bool.{Bool, true, false}
@@ -23,7 +24,7 @@ use Rattle.requests.specs.declared.Slot.{Slot}
 use Rattle.requests.specs.declared.Requests.{Requests}
 use Rattle.requests.specs.declared.Verdict.{Verdict}
 use Rattle.requests.specs.declared.Verdict.TheVariants.{Open, Yes, No}
-use Rattle.base.proofs.Cases.{clash, by_cases, up_to}
+use Rattle.base.proofs.Cases.{clash, by_cases, not_true_false, up_to}
 use Rattle.requests.proofs.Standings.{waits_holds, arrives_holds}
 use Rattle.base.proofs.Stores.{set_in, set_all, get_d_same}
 
@@ -138,6 +139,24 @@ module _ (h : Requests) where
       by_value : (t : Bool) → all_yes h k ≡ t → t ≡ true
       by_value true e = refl
       by_value false e = let r = yes_not k e in clash (p r.0 r.1 r.2) r.3
+
+  -- as the code asks one box after the other
+  pub yes_begins : all_yes h 0 ≡ true
+  unfolding all_yes
+  yes_begins = refl
+
+  pub yes_unheard : (k : ℕ) → all_yes h k ≡ true → heard_from h k ≡ false → all_yes h (k + 1) ≡ true
+  unfolding all_yes still_yes
+  yes_unheard k e t = rw add-one (sym (on_false _ t (sym e)))
+
+  pub yes_said : (k : ℕ) → all_yes h k ≡ true → (slot_at h k).ok ≡ true → all_yes h (k + 1) ≡ true
+  unfolding all_yes still_yes
+  yes_said k e t = rw add-one (by_test (λ (x : Bool). x ≡ true) (heard_from h k) _ _ (λ _. sym (on_true _ t (sym e))) (λ _. e))
+
+  pub yes_denied : (n k : ℕ) → k < n → heard_from h k ≡ true → (slot_at h k).ok ≡ false → all_yes h n ≡ false
+  yes_denied n k l t u = not_true_false (all_yes h n) (λ e. clash (yes_means n e k l t) u)
+
+pub ruleset answers = (yes_begins, yes_unheard, yes_said, yes_denied)
 
 -- What the answers received come to, as facts: the q-th was not received, and of reads none says no; it was, and each says yes; or one says
 -- no, of writes with the q-th.

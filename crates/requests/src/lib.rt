@@ -2,12 +2,11 @@
 // received. Nothing here knows a rank or a revision: those that answers carry stand beside a phase, in the row.
 #![tactic(auto)]
 
-ghost use Rattle.std.specs.Prelude.{◌≡◌, ◌≤◌, ltb};
+ghost use Rattle.std.specs.Prelude.{◌≡◌, ltb};
 ghost use Rattle.base.specs.Choice.{when◌then◌else◌};
-ghost use Rattle.requests.specs.Requests.{none_issued, standing_of, is_waiting, is_on_the_way, issued_to, served_at, received_from, heard_from, at_quorum, still_yes, all_yes, read_verdict, write_verdict, verdict_of};
+ghost use Rattle.requests.specs.Requests.{slot_at, none_issued, standing_of, is_waiting, is_on_the_way, issued_to, served_at, received_from, heard_from, at_quorum, all_yes, read_verdict, write_verdict, verdict_of};
 
 mod masks;
-mod slots;
 
 // A phase of an attempt.
 #[derive(Clone, Copy)]
@@ -24,7 +23,8 @@ pub enum Stage {
     Answered,
 }
 
-// A request at one box; `ok` is its answer's yes or no: a read's is a yes unless it is outranked, a write's if it is taken.
+// A request at one box; `ok` is its answer's yes or no: a read's is a yes unless it is outranked, a write's if it is taken. It stands beside
+// the stage, not in it: `standing_of` is of every pair of the two, which `suite_hand` sets by hand, and `all_yes` reads `ok` at any stage.
 #[derive(Clone, Copy)]
 pub struct Slot {
     pub stage: Stage,
@@ -47,48 +47,63 @@ pub enum Verdict {
     No,
 }
 
+impl Slot {
+    // A request that is not issued.
+    const UNISSUED: Slot = Slot {
+        stage: Stage::Unissued,
+        ok: false,
+    };
+
+    // One that waits.
+    const WAITING: Slot = Slot {
+        stage: Stage::Waiting,
+        ok: false,
+    };
+}
+
 // No request is issued.
 pub fn none_issued() -> Requests
     ensures { result ≡ none_issued }
 {
-    let none = Slot {
-        stage: Stage::Unissued,
-        ok: false,
-    };
-    let slots = [none; 9];
-    Requests { slots, heard: 0 }
+    Requests {
+        slots: [Slot::UNISSUED; 9],
+        heard: 0,
+    }
 }
 
-// A request waits at each box below n, and no answer was received.
+// A request waits at each box below n, and no answer was received. From box 9 on there is no slot.
 pub fn issued(n: u8) -> Requests
     ensures { result ≡ issued_to n }
 {
-    let slots = slots::waiting_below(n);
+    let mut slots = [Slot::UNISSUED; 9];
+    for k in 0..n.min(9) {
+        slots[k as usize] = Slot::WAITING;
+    }
     Requests { slots, heard: 0 }
 }
 
-// The request waits at box b.
+// The slot of box b. From box 9 on no request is issued.
+fn slot_at(q: Requests, b: u8) -> Slot
+    ensures { result ≡ slot_at q b }
+{
+    q.slots.get(b as usize).copied().unwrap_or(Slot::UNISSUED)
+}
+
+// The request waits at box b: its stage says so and its answer was not received. This test and the next differ in a stage, and each is
+// promised in a word of its own, `is_waiting` and `is_on_the_way`: a third function that is handed the stage would be no plainer.
+#[tactic(auto, using(crate::proofs::StandingTests::standings))]
 pub fn waits(q: Requests, b: u8) -> bool
     ensures { result ≡ is_waiting (standing_of q b) }
 {
-    if 9 <= b {
-        return false;
-    }
-    let slot = q.slots[b as usize];
-    let stage = slot.stage;
-    slots::waiting_at(stage, q.heard, b)
+    !heard_from(q, b) && matches!(slot_at(q, b).stage, Stage::Waiting)
 }
 
 // The answer is on the way from box b.
+#[tactic(auto, using(crate::proofs::StandingTests::standings))]
 pub fn on_the_way(q: Requests, b: u8) -> bool
     ensures { result ≡ is_on_the_way (standing_of q b) }
 {
-    if 9 <= b {
-        return false;
-    }
-    let slot = q.slots[b as usize];
-    let stage = slot.stage;
-    slots::coming_from(stage, q.heard, b)
+    !heard_from(q, b) && matches!(slot_at(q, b).stage, Stage::Answered)
 }
 
 // Box b has answered: its answer is on the way. From box 9 on nothing is stored.
@@ -106,73 +121,49 @@ pub fn served(q: Requests, b: u8, ok: bool) -> Requests
 }
 
 // The answer of box b is received. From box 9 on nothing is received.
+#[tactic(auto, using(crate::proofs::Shifts::shifts, base::proofs::Tests::picks))]
 pub fn received(q: Requests, b: u8) -> Requests
     ensures { result ≡ (when ltb b 9 then received_from q b else q) }
 {
-    let mut g = q;
     if b < 9 {
-        g.heard = masks::with_bit(q.heard, b);
+        return Requests {
+            heard: q.heard | 1 << b,
+            ..q
+        };
     }
-    g
+    q
 }
 
 // The answer of box b was received.
 pub fn heard_from(q: Requests, b: u8) -> bool
     ensures { result ≡ heard_from q b }
 {
-    masks::has_any(q.heard, b)
+    masks::has(q.heard, b)
 }
 
 // The boxes below n whose answers were received are exactly a quorum.
+#[tactic(auto, unfolding(crate::specs::Requests::at_quorum))]
 pub fn at_quorum(q: Requests, n: u8) -> bool
     ensures { result ≡ at_quorum q n }
 {
     masks::count_below(q.heard, n) == base::majority(n) as u32
 }
 
-fn still_yes(before: bool, heard: bool, s: Slot) -> bool
-    ensures { result ≡ still_yes before heard s }
-{
-    if !heard {
-        return before;
-    }
-    if !s.ok {
-        return false;
-    }
-    before
-}
-
-// All yes, among the boxes that have a slot.
-fn yes_below(q: Requests, n: u8) -> bool
-    requires { n ≤ 9 }
-    ensures { result ≡ all_yes q n }
-{
-    let mut ok = true;
-    let mut k: u8 = 0;
-    while k < n {
-        let got = masks::has(q.heard, k);
-        let s = q.slots[k as usize];
-        ok = still_yes(ok, got, s);
-        k += 1;
-    }
-    ok
-}
-
-// Each answer received from a box below n says yes.
+// Each answer received from a box below n says yes. From box 9 on there is no slot: an answer received there is no yes.
+#[tactic(auto, using(crate::proofs::RequestLaws::answers))]
 pub fn all_yes(q: Requests, n: u8) -> bool
     ensures { result ≡ all_yes q n }
 {
-    if n <= 9 {
-        return yes_below(q, n);
+    for b in 0..n {
+        if heard_from(q, b) && !slot_at(q, b).ok {
+            return false;
+        }
     }
-    // From box 9 on there is no slot: an answer received there is no yes.
-    if masks::count_below(q.heard, n) != masks::count_below(q.heard, 9) {
-        return false;
-    }
-    yes_below(q, 9)
+    true
 }
 
 // Reads end with the first answer that says no, or with the q-th.
+#[tactic(auto, using(base::proofs::Tests::picks), unfolding(crate::specs::Requests::read_verdict))]
 fn read_verdict(q: Requests, n: u8) -> Verdict
     ensures { result ≡ read_verdict q n }
 {
@@ -180,12 +171,14 @@ fn read_verdict(q: Requests, n: u8) -> Verdict
         return Verdict::No;
     }
     if at_quorum(q, n) {
-        return Verdict::Yes;
+        Verdict::Yes
+    } else {
+        Verdict::Open
     }
-    Verdict::Open
 }
 
 // Writes end with the q-th answer.
+#[tactic(auto, using(base::proofs::Tests::picks), unfolding(crate::specs::Requests::write_verdict))]
 fn write_verdict(q: Requests, n: u8) -> Verdict
     ensures { result ≡ write_verdict q n }
 {
@@ -193,9 +186,10 @@ fn write_verdict(q: Requests, n: u8) -> Verdict
         return Verdict::Open;
     }
     if all_yes(q, n) {
-        return Verdict::Yes;
+        Verdict::Yes
+    } else {
+        Verdict::No
     }
-    Verdict::No
 }
 
 pub fn verdict_of(q: Requests, p: Phase, n: u8) -> Verdict

@@ -1,38 +1,23 @@
 // A set of boxes as the bits of a mask.
-ghost use Rattle.std.specs.Prelude.{◌≡◌, ◌<◌};
-ghost use Rattle.base.specs.Mask.{bit, set_bit, count_below};
+ghost use Rattle.std.specs.Prelude.{◌≡◌};
+ghost use Rattle.base.specs.Mask.{bit, count_below};
 
+// Of any number: a mask has no digit from 16 on.
+#[tactic(auto, using(crate::proofs::Shifts::shifts))]
 pub(crate) fn has(mask: u16, b: u8) -> bool
-    requires { b < 16 }
     ensures { result ≡ bit mask b }
 {
-    (mask >> b) & 1 == 1
-}
-
-// The same of any number: a mask has no digit from 16 on.
-pub(crate) fn has_any(mask: u16, b: u8) -> bool
-    ensures { result ≡ bit mask b }
-{
-    if 16 <= b {
-        return false;
-    }
-    has(mask, b)
-}
-
-pub(crate) fn with_bit(mask: u16, b: u8) -> u16
-    requires { b < 16 }
-    ensures { result ≡ set_bit mask b }
-{
-    mask | (1 << b)
+    b < 16 && mask >> b & 1 == 1
 }
 
 // How many of the boxes below n are in the mask.
+#[tactic(auto, using(crate::proofs::Shifts::shifts))]
 pub(crate) fn count_below(mask: u16, n: u8) -> u32
     ensures { result ≡ count_below mask n }
 {
-    if 16 <= n {
-        return u16::count_ones(mask);
+    if n < 16 {
+        (mask & ((1 << n) - 1)).count_ones()
+    } else {
+        mask.count_ones()
     }
-    let all: u16 = 1 << n;
-    u16::count_ones(mask & (all - 1))
 }

@@ -20,15 +20,6 @@ unfolding stops_by
 refused_stops Refusal refused ends e = e
 refused_stops End refused ends e = sym (on_true _ e refl)
 
--- or, where so told, behind the end of an attempt
-pub goes_on_refusal : (until : Until) (refused ends : Bool) → refused ≡ false → until ≡ Refusal → stops_by until refused ends ≡ false
-unfolding stops_by
-goes_on_refusal until refused ends e q = ap (λ (u : Until). stops_by u refused ends) q ∙ e
-
-pub goes_on_end : (until : Until) (refused ends : Bool) → refused ≡ false → until ≡ End → stops_by until refused ends ≡ ends
-unfolding stops_by
-goes_on_end until refused ends e q = ap (λ (u : Until). stops_by u refused ends) q ∙ sym (on_false _ e refl)
-
 -- where it goes on the step was accepted
 pub goes_accepted : (until : Until) (refused ends : Bool) → stops_by until refused ends ≡ false → refused ≡ false
 goes_accepted until refused ends e = by_cases refused (λ t. clash (refused_stops until refused ends t) e) (λ t. t)

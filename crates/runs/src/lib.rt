@@ -5,39 +5,36 @@
 ghost use Rattle.std.specs.Prelude.{◌≡◌, true, leb, get_or, replicate};
 ghost use Rattle.base.specs.Choice.{when◌then◌else◌};
 ghost use Rattle.base.specs.Records.{records_in};
+ghost use Rattle.base.specs.Refusals.{number_in};
 ghost use Rattle.runs.specs.Runs.{stops_by, refusal_by};
 
+use base::Refusal;
+
 // Where a run of steps ends before its last: behind a step that was refused, or also behind one that ended an attempt.
-#[derive(Clone, Copy)]
+#[derive(Clone, Copy, PartialEq, Eq)]
 pub enum Until {
     Refusal,
     End,
 }
 
 // A run ends behind a step that said so.
+#[tactic(auto, unfolding(crate::specs::Runs::stops_by), using(base::proofs::Tests::picks))]
 pub fn stops(until: Until, refused: bool, ends: bool) -> bool
     ensures { result ≡ stops_by until refused ends }
 {
-    if refused {
-        return true;
-    }
-    match until {
-        Until::Refusal => false,
-        Until::End => ends,
-    }
+    refused || ends && until == Until::End
 }
 
 // The step was the last of its run: no record is left, or the run ends behind what it said.
+#[tactic(auto, using(base::proofs::Tests::picks))]
 pub fn over(left: usize, until: Until, refused: bool, ends: bool) -> bool
     ensures { result ≡ when leb left 0 then true else stops_by until refused ends }
 {
-    if left <= 0 {
-        return true;
-    }
-    stops(until, refused, ends)
+    left == 0 || stops(until, refused, ends)
 }
 
-// The k-th record of the bytes, zeros where there is none.
+// The k-th record of the bytes, zeros where there is none. Byte by byte: the edit `last_byte_twice` reads one for another.
+#[tactic(auto, using(crate::proofs::HandedLaws::record_there, crate::proofs::HandedLaws::record_none), unfolding(base::specs::Records::record_at))]
 pub fn record_at(s: &[u8], k: usize) -> [u8; 8]
     ensures { result ≡ get_or (records_in s.now) k (replicate 8 0) }
 {
@@ -57,16 +54,16 @@ pub fn record_at(s: &[u8], k: usize) -> [u8; 8]
     ]
 }
 
-// What turns a run back before its first step: 6, then 5, 0 where neither applies. Whether the floor is sound is handed in, so that no
-// floor is moved for it.
-pub fn run_refusal(right: bool, size: usize) -> u8
-    ensures { result ≡ refusal_by right size }
+// What turns a run back before its first step: 6, then 5. Whether the floor is sound is handed in, so that no floor is moved for it.
+#[tactic(auto, unfolding(crate::specs::Runs::refusal_by), using(base::proofs::Tests::picks))]
+pub fn run_refusal(right: bool, size: usize) -> Result<(), Refusal>
+    ensures { number_in result ≡ refusal_by right size }
 {
     if !right {
-        return 6;
+        return Err(Refusal::Unsound);
     }
     if size & 7 != 0 {
-        return 5;
+        return Err(Refusal::Records);
     }
-    0
+    Ok(())
 }

@@ -14,7 +14,7 @@ use Rattle.floor.specs.declared.Ran.{Ran}
 use Rattle.runs.specs.declared.Until.TheVariants.{End}
 use Rattle.floor.proofs.RunMeans.{run_ran}
 use Rattle.solo.specs.Plan.{begin_of, exchanges_of, plan_of}
-use Rattle.solo.specs.Solo.{turned_away, of_run, solo_of}
+use Rattle.solo.specs.Solo.{solo_refusal, turned_away, of_run, solo_of}
 use Rattle.solo.specs.Claims.{Counted}
 use Rattle.solo.proofs.PlanLaws.{plan_most}
 
@@ -30,7 +30,7 @@ back_counted f rs k = record { within = omega arith; reached = refl; accepted = 
 -- for every floor and whatever was asked, refused solo finishes too
 pub solo_counted : (f : Floor) (s : ℕ) (v : Suit) → Counted f (plan_of f s v) (solo_of f s v)
 unfolding solo_of
-solo_counted f s v = by_test (Counted f (plan_of f s v)) _ _ _ (λ _. run_counted f _ _) (λ _. back_counted f _ _)
+solo_counted f s v = by_test (Counted f (plan_of f s v)) _ _ _ (λ _. run_counted f _ _) (λ _. back_counted f _ (solo_refusal f s))
 
 -- the steps of at most 9 boxes' plan fit a byte
 pub run_short : (f : Floor) (s : ℕ) (v : Suit) (x : Ran) → Sound f → x ≡ run_of End f (begin_of f s v) (exchanges_of f s) → x.accepted ≤ 37

@@ -1,13 +1,18 @@
 -- The refusals up front: what it means that none applies, and what comes of each case.
 use Prim.Native.Nat.{ℕ, ◌≤◌, ◌<◌}
 use native.Mathlib.Omega.{arith}
-use mathlib.Core.Path.{◌≡◌, refl, sym, ◌∙◌}
+use native.Mathlib.Decide.{ℕ_discrete}
+use mathlib.Core.Path.{◌≡◌, refl, sym, ap, ◌∙◌}
 use mathlib.Core.Bool.{Bool, true, false}
 use lib.ListN.{length}
 use lib.Dec.{leb, ltb}
 use borrow.Author.Tests.{leb-true, leb-false, lt-leb, ltb-true, ltb-false, le-ltb, eq-eqb, ne_eqb}
 use Rattle.suits.specs.declared.Suit.{Suit}
+use Rattle.std.specs.Prelude.{Result, Ok, Err}
 use Rattle.base.specs.Numbers.{quorum}
+use Rattle.base.specs.Refusals.{number, named, number_in}
+use Rattle.base.specs.declared.Refusal.{Refusal}
+use Rattle.base.proofs.RefusalLaws.{number_above}
 use Rattle.base.proofs.Choices.{on_true, on_false, by_test, passed, choice_ap}
 use Rattle.commands.specs.Outcomes.{number_of, value_of}
 use Rattle.base.specs.Choice.{when◌then◌else◌}
@@ -78,6 +83,17 @@ solo_turned f s =
     choose : (t : Bool) {x y : ℕ} → (t ≡ true → TurnedBy f s x) → (t ≡ false → TurnedBy f s y) → TurnedBy f s (when t then x else y)
     choose t {x} {y} = by_test (TurnedBy f s) t x y
 
+-- a refusal has its number by its name
+turned_named : {f : Floor} {s k : ℕ} → TurnedBy f s k → ¬ (k ≡ 0) → number (named k) ≡ k
+turned_named (unsound z) e = refl
+turned_named (no_station z h) e = refl
+turned_named (gone z m g) e = refl
+turned_named (busy z m b) e = refl
+turned_named (no_round z m i o) e = refl
+turned_named (no_row z m i k w) e = refl
+turned_named (few_boxes z m i k l q) e = refl
+turned_named (none z y) e = absurd (e refl)
+
 module _ (f : Floor) (s : ℕ) (v : Suit) where
   -- "a refused solo finish takes 0 steps", and leaves the floor
   pub solo_refused : ¬ (solo_refusal f s ≡ 0) → solo_of f s v ≡ turned_away f (solo_refusal f s)
@@ -90,8 +106,11 @@ module _ (f : Floor) (s : ℕ) (v : Suit) where
 
   -- its number and its value
   pub solo_number_lem : number_of (solo_of f s v).outcome ≡ solo_number f s v
-  unfolding solo_of solo_number
-  solo_number_lem = choice_ap (λ (d : Solo). number_of d.outcome) _ _ _
+  unfolding solo_number
+  solo_number_lem = elim (ℕ_discrete (solo_refusal f s) 0) [
+    | yes e ↦ ap (λ (d : Solo). number_of d.outcome) (solo_driven e) ∙ on_true _ (eq-eqb _ _ e) refl
+    | no e ↦ ap (λ (d : Solo). number_of d.outcome) (solo_refused e) ∙ on_false _ (ne_eqb _ _ e) (turned_named (solo_turned f s) e)
+  ]
 
   pub solo_value_lem : value_of (solo_of f s v).outcome ≡ solo_value f s v
   unfolding solo_of solo_value
@@ -117,12 +136,15 @@ ends_unsound f s v r z h =
     let k = refusal_unsound f s z in
     h ∙ rw k at (sym (solo_refused f s v (λ (e : solo_refusal f s ≡ 0). omega (arith, k))))
 
-module _ (f : Floor) (s : ℕ) (v : Suit) (round k : ℕ) (r : Solo) (z : sound_of f ≡ true) (picked : round ≡ round_of f s) (ek : k ≡ front_refusal f s round) where
-  first : k ≡ solo_refusal f s
-  first = ek ∙ rw picked (sym (refusal_sound f s z))
+module _ (f : Floor) (s : ℕ) (v : Suit) (round : ℕ) {A : Type 0} (x : Result A Refusal) (r : Solo) (z : sound_of f ≡ true) (picked : round ≡ round_of f s)
+    (ex : number_in x ≡ front_refusal f s round) where
+  first : number_in x ≡ solo_refusal f s
+  first = ex ∙ rw picked (sym (refusal_sound f s z))
 
-  pub ends_refused : ¬ (k ≡ 0) → r ≡ turned_away f k → r ≡ solo_of f s v
-  ends_refused n e = e ∙ rw first (sym (solo_refused f s v (λ (o : solo_refusal f s ≡ 0). n (first ∙ o))))
+  pub ends_refused : (e : Refusal) → x ≡ Err e → r ≡ turned_away f (number e) → r ≡ solo_of f s v
+  ends_refused e q h =
+      let k : number e ≡ solo_refusal f s = ap number_in (sym q) ∙ first in
+      h ∙ rw k (sym (solo_refused f s v (λ (o : solo_refusal f s ≡ 0). number_above e (k ∙ o))))
 
-  pub ends_driven : k ≡ 0 → r ≡ of_run (run_of End f (begin_of f s v) (exchanges_of f s)) → r ≡ solo_of f s v
-  ends_driven o e = e ∙ sym (solo_driven f s v (sym first ∙ o))
+  pub ends_driven : (a : A) → x ≡ Ok a → r ≡ of_run (run_of End f (begin_of f s v) (exchanges_of f s)) → r ≡ solo_of f s v
+  ends_driven a q h = h ∙ sym (solo_driven f s v (sym first ∙ ap number_in q))

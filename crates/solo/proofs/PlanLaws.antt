@@ -1,14 +1,17 @@
 -- The begin of the plan, the boxes that answer, and how many steps the exchanges with them are.
-use Prim.Native.Nat.{ℕ, zero, suc, ◌+◌, ◌-◌, ◌*◌, ◌≤◌, ◌<◌}
+use Prim.Native.Nat.{ℕ, zero, suc, ◌+◌, ◌*◌, ◌≤◌}
 use native.Mathlib.Omega.{arith}
-use native.Mathlib.Nat.{sub-zero, zero-add}
-use mathlib.Core.Path.{◌≡◌, refl, sym, ap}
-use mathlib.Core.Bool.{true, false}
-use mathlib.Core.List.{List, [], ◌∷◌}
-use lib.ListN.{length, get_or, take, length-take, length-append}
+use native.Mathlib.Numerals.{add-one}
+use mathlib.Core.Path.{◌≡◌, refl, ap, ◌∙◌}
+use mathlib.Core.Bool.{Bool, not, cond}
+use mathlib.Core.List.{List, ◌∷◌}
+use lib.ListN.{length, get_or, take, drop, length-take, length-append}
+use lib.Seq.{drop-cons}
+use Rattle.std.specs.List.{count_by}
+use Rattle.std.proofs.lemmas.List.Sums.{sum_by-cons}
 use Rattle.suits.specs.declared.Suit.{Suit}
 use Rattle.base.specs.Numbers.{quorum}
-use Rattle.base.proofs.Choices.{on_true, on_false, by_test}
+use Rattle.base.proofs.Choices.{by_test}
 use Rattle.register.specs.Register.{box0}
 use Rattle.register.specs.declared.StorageBox.{StorageBox}
 use Rattle.requests.specs.declared.Phase.{Phase}
@@ -26,29 +29,15 @@ use Rattle.solo.specs.Plan.{round_of, answering_from, lowest, asked_of, begin_of
 pub plan_begins : (f : Floor) (s : ℕ) (v : Suit) → command_of (begin_of f s v) ≡ Begin s (round_of f s) v
 plan_begins f s v = decode_encode (Begin s (round_of f s) v)
 
--- box b and those after it
-pub one_box : (n b : ℕ) → b < n → n - b ≡ suc (n - (b + 1))
-one_box n b h = omega arith
-
-module _ (k b : ℕ) (boxes : List StorageBox) where
-  pub answering_skip : (get_or boxes b box0).away ≡ true → answering_from (suc k) b boxes ≡ answering_from k (b + 1) boxes
-  unfolding answering_from
-  answering_skip e = sym (on_true _ e refl)
-
-  pub answering_take : (get_or boxes b box0).away ≡ false → answering_from (suc k) b boxes ≡ b ∷ answering_from k (b + 1) boxes
-  unfolding answering_from
-  answering_take e = sym (on_false _ e refl)
-
-pub answering_none : (b : ℕ) (boxes : List StorageBox) → answering_from 0 b boxes ≡ []
-unfolding answering_from
-answering_none b boxes = refl
-
 pub answering_most : (k b : ℕ) (boxes : List StorageBox) → length (answering_from k b boxes) ≤ k
 unfolding answering_from
 answering_most zero b boxes = omega arith
 answering_most (suc k) b boxes =
     let h = answering_most k (b + 1) boxes in
     by_test (λ (l : List ℕ). length l ≤ suc k) _ _ _ (λ _. omega arith) (λ _. omega arith)
+
+abbrev not_away : (x : StorageBox) → Bool
+not_away x = not x.away
 
 -- two steps with each box
 pub exchanges_most : (p : Phase) (a q n : ℕ) (boxes : List StorageBox) → length (exchanges p a (lowest q boxes n)) ≤ 2 * n
@@ -66,26 +55,18 @@ plan_most f s v =
     let w = exchanges_most Write (row_taken f s) (quorum f.n) f.n f.boxes in
     omega (arith, length-append reads writes)
 
--- counting: the c boxes found below b, and those from b on, are all
-abbrev pub CountInv : List StorageBox → ℕ → ℕ → ℕ → Type 0
-CountInv boxes n c b = (b ≤ n) × (c ≤ b) × (c + length (answering_from (n - b) b boxes) ≡ length (answering_from n 0 boxes))
+-- how many answer, as the boxes themselves are counted
+answering_count : (k b : ℕ) (boxes : List StorageBox) → b + k ≤ length boxes → count_by not_away (take k (drop b boxes)) ≡ length (answering_from k b boxes)
+unfolding answering_from
+answering_count zero b boxes h = refl
+answering_count (suc k) b boxes h =
+    let r = answering_count k (b + 1) boxes (omega arith) in
+    let x = get_or boxes b box0 in
+    let l = take k (drop (b + 1) boxes) in
+    let at : take (suc k) (drop b boxes) ≡ x ∷ l = rw add-one (ap (take (suc k)) (drop-cons boxes b box0 (omega arith))) in
+    ap (count_by not_away) at
+    ∙ sum_by-cons (λ (x : StorageBox). cond (not_away x) 1 0) x l
+    ∙ by_test (λ (u : List ℕ). cond (not_away x) 1 0 + count_by not_away l ≡ length u) x.away _ _ (λ e. rw e (omega (arith, r))) (λ e. rw e (omega (arith, r)))
 
-pub count_start : (boxes : List StorageBox) (n : ℕ) → CountInv boxes n 0 0
-count_start boxes n = (omega arith, omega arith, rw (sub-zero, zero-add))
-
-module _ (boxes : List StorageBox) (n c b : ℕ) (i : CountInv boxes n c b) where
-  module _ (h : b < n) (c' : ℕ) where
-    pub count_one : (get_or boxes b box0).away ≡ false → c' ≡ c + 1 → CountInv boxes n c' (b + 1)
-    count_one s e =
-        let l = ap length (answering_take (n - (b + 1)) b boxes s) in
-        (omega arith, omega arith, omega (arith, rw (one_box n b h) at i.2))
-
-    pub count_none : (get_or boxes b box0).away ≡ true → c' ≡ c → CountInv boxes n c' (b + 1)
-    count_none s e =
-        let l = ap length (answering_skip (n - (b + 1)) b boxes s) in
-        (omega arith, omega arith, omega (arith, rw (one_box n b h) at i.2))
-
-  pub count_end : n ≤ b → c ≡ length (answering_from n 0 boxes)
-  count_end h =
-      let e : n - b ≡ 0 = omega arith in
-      omega (arith, rw (e, answering_none) at i.2)
+pub answering_counted : (boxes : List StorageBox) (n : ℕ) → n ≤ length boxes → count_by not_away (take n boxes) ≡ length (answering_from n 0 boxes)
+answering_counted boxes n h = answering_count n 0 boxes (omega arith)

@@ -1,1 +1,2 @@
--- Only the proofs of the functions stand here.
+-- One file beside the proofs of the functions: what looking at the boxes of a row comes to.
+mod ServedLaws

@@ -1,64 +1,57 @@
 // The functions of the cutting floor: a new floor, whether a floor is sound, the row that a begin takes, and the steps that change a floor.
 // What they do is said in crate `floor`.
 //
-// A step looks at one row, one box and one station and changes no other. `parts` decides on these alone, by value; the loop of
-// `run_sound` is the one place that reads them out of a floor and stores them into it, so that no whole floor is moved for a step.
+// A step looks at one row, one box and one station and changes no other. `parts` decides on these alone; `turn` is the one place
+// that reads them out of a floor and stores them into it. The floor stays where it is: no whole floor is moved for a step.
 #![tactic(auto)]
 
-ghost use Rattle.std.specs.Prelude.{◌≡◌, true, false, length, ◌+◌, ◌≤◌};
+ghost use Rattle.std.specs.Prelude.{◌≡◌, length, ◌≤◌, [], Some, ltb};
+ghost use Rattle.std.specs.List.{list_all};
+ghost use Rattle.attempts.specs.declared.Row.{Row};
 ghost use Rattle.base.specs.Choice.{when◌then◌else◌};
 ghost use Rattle.base.specs.Records.{records_in};
 ghost use Rattle.commands.specs.Commands.{command_of};
 ghost use Rattle.commands.specs.Outcomes.{number_of, value_of};
-ghost use Rattle.register.specs.Register.{of_department};
-ghost use Rattle.floor.specs.Floors.{department_from, stations_told, empty_floor, new_floor_of};
-ghost use Rattle.floor.specs.Sound.{stations_below, share_sound, sound_of};
+ghost use Rattle.floor.specs.Floors.{new_station, stations_told, empty_floor, new_floor_of};
+ghost use Rattle.floor.specs.Sound.{share_sound, sound_of};
 ghost use Rattle.floor.specs.Free.{next_row};
+ghost use Rattle.floor.specs.Effects.{stepped};
 ghost use Rattle.floor.specs.Step.{apply_of, step_of, refusal_of, value_said};
 ghost use Rattle.floor.specs.Departments.{belonging, department_with};
-ghost use Rattle.floor.specs.Runs.{run_from, played_in, driven_in};
+ghost use Rattle.floor.specs.Runs.{ran_with, run_from, played_in, driven_in};
 ghost use Rattle.floor.specs.Soundness.{Sound};
 
-use attempts::{Decision, State, Station};
+use attempts::{Row, State, Station};
+use base::Refusal;
 use commands::{Command, Outcome};
-use floor::{Floor, NewFloor, Played, Ran, Share, Shares, Stepped};
-use places::Lowest;
-use register::{Department, Register, StorageBox};
+use floor::{Floor, NewFloor, Played, Ran, Share, Stepped};
+use parts::Parts;
+use register::{ByDepartment, Department, Register, StorageBox};
 use runs::Until;
 
 mod free;
 
-// The department of a byte.
-fn department_from(byte: u8) -> Department
-    ensures { result ≡ department_from byte }
+// A station of that department that has begun nothing and decided nothing.
+fn new_station(department: Department) -> Station
+    ensures { result ≡ new_station department }
 {
-    if byte == 0 {
-        return Department::Sails;
+    Station {
+        department,
+        state: State::Idle,
+        last: 0,
+        decided: None,
     }
-    Department::Canvas
 }
 
 // The stations of a new floor, told their departments.
+#[tactic(auto, unfolding(floor::specs::Floors::stations_told))]
 fn stations_told(departments: &[u8]) -> [Station; 16]
     requires { length departments.now ≤ 16 }
     ensures { result ≡ stations_told departments.now (length departments.now) }
 {
-    let mut stations = [Station {
-        department: Department::Sails,
-        state: State::Idle,
-        last: 0,
-        decided: Decision::None,
-    }; 16];
-    let mut k: usize = 0;
-    while k < departments.len() {
-        let department = department_from(departments[k]);
-        stations[k] = Station {
-            department,
-            state: State::Idle,
-            last: 0,
-            decided: Decision::None,
-        };
-        k += 1;
+    let mut stations = [new_station(Department::Sails); 16];
+    for (k, &byte) in departments.iter().enumerate() {
+        stations[k] = new_station(Department::from(byte));
     }
     stations
 }
@@ -68,171 +61,105 @@ fn empty(n: u8, m: u8, departments: &[u8]) -> Floor
     requires { length departments.now ≤ 16 }
     ensures { result ≡ empty_floor n m departments.now }
 {
-    let value = suits::none();
     let register = Register {
         read: 0,
         write: 0,
-        value,
+        value: suits::none(),
     };
     let storage = StorageBox {
-        sails: register,
-        canvas: register,
+        registers: ByDepartment {
+            sails: register,
+            canvas: register,
+        },
         away: false,
     };
-    let boxes = [storage; 9];
-    let stations = stations_told(departments);
-    let row = attempts::unused();
-    let rows = [row; 128];
     let share = Share {
         used: 0,
         highest: 0,
     };
-    let shares = Shares {
-        sails: share,
-        canvas: share,
-    };
     Floor {
         n,
         m,
-        shares,
-        boxes,
-        stations,
-        rows,
+        shares: ByDepartment {
+            sails: share,
+            canvas: share,
+        },
+        boxes: [storage; 9],
+        stations: stations_told(departments),
+        rows: [attempts::unused(); 128],
+    }
+}
+
+// A new floor that is turned back: that of one box and one station.
+fn none_made(refusal: Refusal) -> NewFloor
+    ensures { result ≡ record { floor = empty_floor 1 1 []; refusal = Some refusal } }
+{
+    NewFloor {
+        floor: empty(1, 1, &[]),
+        refusal: Some(refusal),
     }
 }
 
 // A new floor is told the departments of its stations, one byte each: 0 sails, 1 canvas.
+#[tactic(auto, using(base::proofs::Tests::picks, base::proofs::SizeLaws::sizes_mean, base::proofs::DepartmentLaws::departments_mean), unfolding(floor::specs::Floors::new_floor_of))]
 pub fn new_floor(n: u8, m: u8, departments: &[u8]) -> NewFloor
     ensures { result ≡ new_floor_of n m departments.now }
 {
     if !base::sizes_right(n, m) {
-        return NewFloor {
-            floor: empty(1, 1, &[]),
-            refusal: 3,
-        };
+        return none_made(Refusal::Sizes);
     }
     if base::departments_wrong(m as usize, departments) {
-        return NewFloor {
-            floor: empty(1, 1, &[]),
-            refusal: 22,
-        };
+        return none_made(Refusal::Departments);
     }
     NewFloor {
         floor: empty(n, m, departments),
-        refusal: 0,
+        refusal: None,
     }
 }
 
-// What the department has begun.
-pub fn share_of(x: Shares, d: Department) -> Share
-    ensures { result ≡ of_department d x.sails x.canvas }
+// Each of the rows has a station below m.
+fn stations_below(rows: &[Row], m: u8) -> bool
+    ensures { result ≡ list_all (λ (w : Row). ltb w.station m) rows.now }
 {
-    match d {
-        Department::Sails => x.sails,
-        Department::Canvas => x.canvas,
-    }
-}
-
-// The same with that of the department stored.
-fn shares_with(x: Shares, d: Department, share: Share) -> Shares
-    ensures { result ≡ record { sails = of_department d share x.sails; canvas = of_department d x.canvas share } }
-{
-    let mut y = x;
-    match d {
-        Department::Sails => {
-            y.sails = share;
-            y
-        }
-        Department::Canvas => {
-            y.canvas = share;
-            y
-        }
-    }
-}
-
-fn and(x: bool, y: bool) -> bool
-    ensures { result ≡ when x then y else false }
-{
-    if x {
-        return y;
-    }
-    false
-}
-
-// The rows of a department that are in use, `used` from `first` on, have a station below m.
-fn stations_below(f: Floor, first: u8, used: u8) -> bool
-    requires { (first ≤ 64) × (used ≤ 64) }
-    ensures { result ≡ stations_below f.rows f.m first used }
-{
-    let mut ok = true;
-    let mut k: u8 = 0;
-    while k < used {
-        let w = f.rows[(first + k) as usize];
-        ok = and(w.station < f.m, ok);
-        k += 1;
-    }
-    ok
+    rows.iter().all(|w| w.station < m)
 }
 
 // Refusal 6 does not apply to the rows that the department uses.
-fn share_sound(f: Floor, d: Department) -> bool
-    ensures { result ≡ share_sound f d }
+#[tactic(auto, using(base::proofs::Tests::picks, floor::proofs::SoundLaws::below_part), unfolding(floor::specs::Sound::share_sound))]
+fn share_sound(f: &Floor, d: Department) -> bool
+    ensures { result ≡ share_sound f.now d }
 {
-    let shares = f.shares;
-    let share = share_of(shares, d);
-    let first = attempts::first_row(d);
-    if 64 < share.used {
-        return false;
-    }
-    stations_below(f, first, share.used)
+    let used = f.shares.of(d).used as usize;
+    let first = attempts::first_row(d) as usize;
+    used <= 64 && stations_below(&f.rows[first..first + used], f.m)
 }
 
 // Refusal 6 does not apply.
+#[tactic(auto, using(base::proofs::Tests::picks), unfolding(floor::specs::Sound::sound_of))]
+fn sound_here(f: &Floor) -> bool
+    ensures { result ≡ sound_of f.now }
+{
+    base::sizes_right(f.n, f.m)
+        && share_sound(f, Department::Sails)
+        && share_sound(f, Department::Canvas)
+}
+
 pub fn sound(f: Floor) -> bool
     ensures { result ≡ sound_of f }
 {
-    if !base::sizes_right(f.n, f.m) {
-        return false;
-    }
-    if !share_sound(f, Department::Sails) {
-        return false;
-    }
-    share_sound(f, Department::Canvas)
+    sound_here(&f)
 }
 
-// The same on a sound floor.
-fn next_sound(f: Floor, d: Department) -> u8
-    requires { Sound f }
-    ensures { result ≡ next_row f d }
-{
-    let shares = f.shares;
-    let share = share_of(shares, d);
-    let first = attempts::first_row(d);
-    if share.used < 64 {
-        return first + share.used;
-    }
-    let mut found = Lowest { row: 128, rank: 0 };
-    let mut k: u8 = 0;
-    while k < 64 {
-        let a = first + k;
-        let w = f.rows[a as usize];
-        let owner = f.stations[w.station as usize];
-        let state = owner.state;
-        found = free::better(found, w, state, f.n, a);
-        k += 1;
-    }
-    found.row
-}
-
-// The row that a begin of the department takes on a sound floor: the next, or with all its 64 used the free one with the smallest rank, of
-// equals the lowest. 128 where no row is unused or free, and where the floor is not sound.
+// The row that a begin of the department takes on a sound floor, as `next_sound`; 128 also where the floor is not sound. A number and no
+// Option: 128 is what the call promises where there is none.
+#[tactic(auto, using(base::proofs::Tests::picks, floor::proofs::SoundLaws::sound_means))]
 pub fn next_row(f: Floor, d: Department) -> u8
     ensures { result ≡ (when sound_of f then next_row f d else 128) }
 {
-    if !sound(f) {
+    if !sound_here(&f) {
         return 128;
     }
-    next_sound(f, d)
+    free::next_sound(&f, d)
 }
 
 // The department that the step belongs to, where the station that it names is of the department `own`; of a step that both share `own`.
@@ -240,93 +167,85 @@ fn department_in(own: Department, c: Command) -> Department
     ensures { result ≡ department_with own (belonging own c) }
 {
     match c {
-        Command::Begin(_, _, _) => own,
-        Command::Serve(_, a, _) => attempts::department_of(a),
-        Command::Deliver(_, a, _) => attempts::department_of(a),
-        Command::Stop(_) => own,
-        Command::Leave(_) => own,
-        Command::Return(_) => own,
-        Command::Malformed => own,
+        Command::Serve(_, a, _) | Command::Deliver(_, a, _) => attempts::department_of(a),
+        Command::Begin(_, _, _)
+        | Command::Stop(_)
+        | Command::Leave(_)
+        | Command::Return(_)
+        | Command::Malformed => own,
     }
 }
 
-// A command on a sound floor, and then the steps of the records behind it.
-fn run_sound(mut f: Floor, first: Command, records: &[u8], until: Until) -> Ran
-    requires { Sound f }
-    ensures { result ≡ run_from until 0 f first (records_in records.now) }
+// A lent floor that is sound: shown once, where a public call tests it, and again behind each accepted step.
+#[derive(Drop)]
+struct SoundFloor<'a> {
+    floor: &'a mut Floor,
+    ghost sound: { Sound floor.now },
+}
+
+// A step on a sound floor: what it looks at is read out of the floor, and stored there if the step is accepted.
+#[tactic(auto, using(places::proofs::PlaceLaws::place_below))]
+fn turn(f: &mut SoundFloor, c: Command) -> Outcome
+    ensures same_reference { f.new.floor.ghost_name ≡ f.old.floor.ghost_name }
+    ensures stepped { stepped f.new.floor.now result ≡ apply_of f.old.floor.now c }
+{
+    let near = places::station_place(16, 0, c) as usize;
+    let d = department_in(f.floor.stations[near].department, c);
+    let share = f.floor.shares.of(d);
+    let next = free::taken(f.floor, d, c);
+    let i = places::row_place(128, next, c) as usize;
+    let b = places::box_place(9, c) as usize;
+    let row = f.floor.rows[i];
+    let j = places::station_place(16, row.station, c) as usize;
+    let storage = f.floor.boxes[b];
+    let mut x = Parts {
+        n: f.floor.n,
+        m: f.floor.m,
+        first: attempts::first_row(d),
+        used: share.used,
+        next,
+        highest: share.highest,
+        row,
+        register: storage.registers.of(d),
+        away: storage.away,
+        station: f.floor.stations[j],
+    };
+    let outcome = parts::change(&mut x, c);
+    if outcome.refused() {
+        return outcome;
+    }
+    f.floor.shares = f.floor.shares.with(
+        d,
+        Share {
+            used: x.used,
+            highest: x.highest,
+        },
+    );
+    f.floor.boxes[b] = StorageBox {
+        registers: storage.registers.with(d, x.register),
+        away: x.away,
+    };
+    f.floor.stations[j] = x.station;
+    f.floor.rows[i] = x.row;
+    outcome
+}
+
+// A command on a sound floor, and then the steps of the records behind it: how many were accepted, and what the last step said, the refused
+// one included. A `loop`: k is also how many steps were accepted, and a step is taken behind the last record too.
+fn run_sound(f: &mut SoundFloor, first: Command, records: &[u8], until: Until) -> (usize, Outcome)
+    ensures same_reference { f.new.floor.ghost_name ≡ f.old.floor.ghost_name }
+    ensures ran { ran_with f.new.floor.now result.0 result.1 ≡ run_from until 0 f.old.floor.now first (records_in records.now) }
 {
     let count = records.len() >> 3;
     let mut c = first;
     let mut k: usize = 0;
     loop {
-        let near = places::station_place(16, 0, c) as usize;
-        let named = f.stations[near];
-        let own = named.department;
-        let d = department_in(own, c);
-        let shares = f.shares;
-        let share = share_of(shares, d);
-        let first = attempts::first_row(d);
-        let mut found = free::start(first, share.used, c);
-        let mut passed = free::first(found);
-        while passed < 64 {
-            let a = first + passed;
-            let w = f.rows[a as usize];
-            let owner = f.stations[w.station as usize];
-            let state = owner.state;
-            found = free::better(found, w, state, f.n, a);
-            passed += 1;
+        let outcome = turn(f, c);
+        if outcome.refused() {
+            return (k, outcome);
         }
-        let next = found.row;
-        let i = places::row_place(128, next, c) as usize;
-        let b = places::box_place(9, c) as usize;
-        let row = f.rows[i];
-        let j = places::station_place(16, row.station, c) as usize;
-        let storage = f.boxes[b];
-        let register = register::register_of(storage, d);
-        let station = f.stations[j];
-        let x = parts::gathered(
-            f.n,
-            f.m,
-            first,
-            share.used,
-            next,
-            share.highest,
-            row,
-            register,
-            storage.away,
-            station,
-        );
-        let y = parts::change(x, c);
-        let o = y.outcome;
-        let refused = commands::refused(o);
-        if refused {
-            return Ran {
-                floor: f,
-                accepted: k,
-                outcome: o,
-            };
-        }
-        let z = y.parts;
-        let row2 = z.row;
-        let register2 = z.register;
-        let station2 = z.station;
-        let storage2 = register::box_with(storage, d, register2, z.away);
-        let share2 = Share {
-            used: z.used,
-            highest: z.highest,
-        };
-        let shares2 = shares_with(shares, d, share2);
-        f.rows[i] = row2;
-        f.boxes[b] = storage2;
-        f.stations[j] = station2;
-        f.shares = shares2;
-        let ends = commands::ends(o);
-        if runs::over(count - k, until, refused, ends) {
-            return Ran {
-                floor: f,
-                accepted: k + 1,
-                outcome: o,
-            };
+        if runs::over(count - k, until, false, outcome.ends()) {
+            return (k + 1, outcome);
         }
         c = commands::decode(runs::record_at(records, k));
         k += 1;
@@ -334,73 +253,82 @@ fn run_sound(mut f: Floor, first: Command, records: &[u8], until: Until) -> Ran
 }
 
 // Takes the steps of a list of 8-byte records one after the other, up to the first that is refused.
-pub fn run(f: Floor, records: &[u8]) -> Played
+pub fn run(mut f: Floor, records: &[u8]) -> Played
     ensures { result ≡ played_in f records.now }
 {
-    let right = sound(f);
-    let refusal = runs::run_refusal(right, records.len());
-    if refusal != 0 {
+    if let Err(refusal) = runs::run_refusal(sound_here(&f), records.len()) {
         return Played {
             floor: f,
             accepted: 0,
-            refusal,
+            refusal: Some(refusal),
         };
     }
     if records.len() < 8 {
         return Played {
             floor: f,
             accepted: 0,
-            refusal: 0,
+            refusal: None,
         };
     }
     let first = commands::decode(runs::record_at(records, 0));
-    let ran = run_sound(f, first, &records[8..], Until::Refusal);
-    let floor = ran.floor;
-    let outcome = ran.outcome;
+    let (accepted, outcome) = run_sound(
+        &mut SoundFloor { floor: &mut f },
+        first,
+        &records[8..],
+        Until::Refusal,
+    );
     Played {
-        floor,
-        accepted: ran.accepted,
-        refusal: commands::number(outcome),
+        floor: f,
+        accepted,
+        refusal: outcome.refusal(),
     }
 }
 
 // The same from a record on, up to the first step that is refused or that ends an attempt, with what the last step said.
-pub fn drive(f: Floor, first: [u8; 8], records: &[u8]) -> Ran
+pub fn drive(mut f: Floor, first: [u8; 8], records: &[u8]) -> Ran
     ensures ran { result ≡ driven_in f first records.now }
     ensures number { number_of result.outcome ≡ number_of (driven_in f first records.now).outcome }
     ensures value { value_of result.outcome ≡ value_of (driven_in f first records.now).outcome }
 {
-    let right = sound(f);
-    let refusal = runs::run_refusal(right, records.len());
-    if refusal != 0 {
+    if let Err(refusal) = runs::run_refusal(sound_here(&f), records.len()) {
         return Ran {
             floor: f,
             accepted: 0,
             outcome: Outcome::Refused(refusal),
         };
     }
-    run_sound(f, commands::decode(first), records, Until::End)
+    let (accepted, outcome) = run_sound(
+        &mut SoundFloor { floor: &mut f },
+        commands::decode(first),
+        records,
+        Until::End,
+    );
+    Ran {
+        floor: f,
+        accepted,
+        outcome,
+    }
 }
 
-// A single step on a decoded command: a run of one.
-pub fn apply(f: Floor, c: Command) -> Stepped
+// A single step on a decoded command.
+#[tactic(auto, using(floor::proofs::SoundLaws::sound_means, floor::proofs::StepLaws::apply_unsound))]
+pub fn apply(mut f: Floor, c: Command) -> Stepped
     ensures stepped { result ≡ apply_of f c }
     ensures number { number_of result.outcome ≡ refusal_of f c }
     ensures value { value_of result.outcome ≡ value_said f c }
 {
-    if !sound(f) {
+    if !sound_here(&f) {
         return Stepped {
             floor: f,
-            outcome: Outcome::Refused(6),
+            outcome: Outcome::Refused(Refusal::Unsound),
         };
     }
-    let ran = run_sound(f, c, &[], Until::End);
-    let floor = ran.floor;
-    let outcome = ran.outcome;
-    Stepped { floor, outcome }
+    let outcome = turn(&mut SoundFloor { floor: &mut f }, c);
+    Stepped { floor: f, outcome }
 }
 
 // The same step, handed in as its 8-byte record.
+#[tactic(auto, unfolding(floor::specs::Step::step_of))]
 pub fn step(f: Floor, bytes: [u8; 8]) -> Stepped
     ensures stepped { result ≡ step_of f bytes }
     ensures number { number_of result.outcome ≡ refusal_of f (command_of bytes) }

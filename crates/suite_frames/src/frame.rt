@@ -1,180 +1,140 @@
 // Reads and writes frames and says what came of it.
-ghost use Rattle.std.specs.Prelude.{◌-◌, ◌≤◌, length};
+use base::Refusal;
+use cases::{Case, Hex, Refused, RefusedBut};
+use frames::{Kind, Message};
+use std::{fmt, io};
 
-use frames::{Message, Parsed};
+// The message that was read, or the refusal.
+#[derive(Drop)]
+struct Answer(Result<Message, Refusal>);
 
-fn message(m: Message) {
-    match m {
-        Message::ReadRequest(rank) => cases::fill(b"read request %", &[rank as u64]),
-        Message::WriteRequest(rank, revision) => {
-            cases::fill(b"write request % %", &[rank as u64, revision as u64])
+impl fmt::Display for Answer {
+    fn fmt<W: fmt::Write>(&self, f: &mut fmt::Formatter<W>) -> fmt::Result {
+        match self.0 {
+            Ok(m) => write!(f, "{}", Words(m)),
+            Err(refusal) => write!(f, "{}", Refused(Some(refusal))),
         }
-        Message::ReadAnswer(rank, value) => {
-            cases::fill(b"read answer % %", &[rank as u64, value as u64])
-        }
-        Message::Outranked => cases::print(b"outranked"),
-        Message::Taken => cases::print(b"taken"),
-        Message::NotTaken => cases::print(b"not taken"),
     }
 }
 
-// The message that was read, or the refusal.
-fn answer(p: Parsed) {
-    match p {
-        Parsed::Refused(k) => cases::refusal(k),
-        Parsed::Accepted(m) => message(m),
+#[derive(Drop)]
+struct Words(Message);
+
+impl fmt::Display for Words {
+    fn fmt<W: fmt::Write>(&self, f: &mut fmt::Formatter<W>) -> fmt::Result {
+        match self.0 {
+            Message::ReadRequest(rank) => write!(f, "read request {rank}"),
+            Message::WriteRequest(rank, revision) => write!(f, "write request {rank} {revision}"),
+            Message::ReadAnswer(rank, value) => write!(f, "read answer {rank} {value}"),
+            Message::Outranked => write!(f, "outranked"),
+            Message::Taken => write!(f, "taken"),
+            Message::NotTaken => write!(f, "not taken"),
+        }
     }
 }
 
 // Whether a message, written into a buffer, is this frame, and the bytes behind it are as they were.
 fn again(m: Message, frame: &[u8]) -> bool {
-    let before = [0xeeu8; 40];
-    let mut buffer = [0xeeu8; 40];
-    let written = frames::write_frame(&mut buffer, m);
-    let size = written.size;
-    if size != frame.len() {
-        return false;
-    }
-    if !cases::same(cases::up_to(&buffer, size), frame) {
-        return false;
-    }
-    cases::same(cases::from(&buffer, size), cases::from(&before, size))
+    let before = [0xee; 40];
+    let mut buffer = before;
+    frames::write_frame(&mut buffer, m) == Ok(frame.len()) && cases::left(&buffer, &before, frame)
 }
 
-// Says it of an accepted frame.
-fn accepted(p: Parsed, frame: &[u8]) {
-    match p {
-        Parsed::Refused(_) => {}
-        Parsed::Accepted(m) => {
-            if again(m, frame) {
-                cases::print(b"; written again: the same");
-                return;
-            }
-            cases::print(b"; written again: ANOTHER FRAME");
-        }
+// Says what is read at the start of an input, which bytes are behind the frame, and what comes of writing it again, if it is accepted.
+fn one(rt: &impl Print, input: &[u8]) -> io::Result<()> {
+    let read = frames::read_frame(input);
+    let behind = Hex(frames::behind_frame(input));
+    print!(rt; "{} /{behind}", Answer(read))?;
+    if let Ok(m) = read {
+        let same = again(m, cases::up_to(input, frames::frame_end(input)));
+        let word = if same { "the same" } else { "ANOTHER FRAME" };
+        print!(rt; "; written again: {word}")?;
     }
+    Ok(())
 }
 
-// Says what is read at the start of an input and which bytes are behind the frame. Returns how many these are: none, or fewer than the
-// input has.
-fn one(input: &[u8]) -> usize
-    ensures { result ≤ length input.now - 2 }
-{
-    let p = frames::read_frame(input);
-    let behind = frames::behind_frame(input);
-    answer(p);
-    cases::print(b" /");
-    cases::hex(behind);
-    accepted(p, cases::up_to(input, frames::frame_end(input)));
-    behind.len()
-}
-
-// Reads an input, and what is left behind each frame, a line for each, until nothing is left.
-pub(crate) fn get(words: &[u8], input: &[u8]) {
-    cases::print(words);
-    cases::print(b" -> ");
-    let mut left = one(input);
-    while 0 < left {
-        let at = input.len() - left;
-        cases::print(b"\n  then ");
-        left = one(&input[at..]);
+// Reads an input, and what is left behind each frame, a line for each, until nothing is left. No index is counted: what is left shrinks.
+#[tactic(auto, using(frames::proofs::ReaderLaws::behind_shorter))]
+pub(crate) fn get(rt: &impl Print, case: Case) -> io::Result<()> {
+    rt.write_all(case.line)?;
+    print!(rt; " -> ")?;
+    one(rt, case.bytes)?;
+    let mut rest = frames::behind_frame(case.bytes);
+    while !rest.is_empty() {
+        print!(rt; "\n  then ")?;
+        one(rt, rest)?;
+        rest = frames::behind_frame(rest);
     }
-    cases::print(b"\n");
+    println!(rt)
 }
 
-// A message of any fields, those too that are turned away; of an unknown kind what `message_of` answers.
-fn made(kind: u8, first: u32, second: u32) -> Parsed {
-    match kind {
-        1 => Parsed::Accepted(Message::ReadRequest(first)),
-        2 => Parsed::Accepted(Message::WriteRequest(first, second)),
-        3 => Parsed::Accepted(Message::ReadAnswer(first, second)),
-        4 => Parsed::Accepted(Message::Outranked),
-        5 => Parsed::Accepted(Message::Taken),
-        6 => Parsed::Accepted(Message::NotTaken),
-        _ => frames::message_of(kind as u32, first, second),
+// A message of any fields, those too that are turned away; of an unknown kind what `message_of` answers. `Kind::message` is private to
+// `frames`, which hands out no message that it did not look at, so the messages of the kinds stand here again.
+fn made(kind: u8, first: u32, second: u32) -> Result<Message, Refusal> {
+    let number = kind as u32;
+    match Kind::try_from(number) {
+        Ok(Kind::ReadRequest) => Ok(Message::ReadRequest(first)),
+        Ok(Kind::WriteRequest) => Ok(Message::WriteRequest(first, second)),
+        Ok(Kind::ReadAnswer) => Ok(Message::ReadAnswer(first, second)),
+        Ok(Kind::Outranked) => Ok(Message::Outranked),
+        Ok(Kind::Taken) => Ok(Message::Taken),
+        Ok(Kind::NotTaken) => Ok(Message::NotTaken),
+        Err(_) => frames::message_of(number, first, second),
     }
 }
 
-// A refusal of the writer with its cause.
-fn refusal(k: u8) {
-    if k == 18 {
-        cases::print(b"refusal 18 (buffer shorter than the frame)");
-        return;
+// A refusal of the writer with its cause, or that there is none.
+fn turned_away(refusal: Option<Refusal>) -> RefusedBut<'static> {
+    RefusedBut {
+        refusal,
+        one: Refusal::Room,
+        cause: "buffer shorter than the frame",
     }
-    cases::refusal(k);
-}
-
-// Writes the frame of a message, and shows the buffer: the frame, a stroke, and what stands behind it.
-fn shown(buffer: &mut [u8], m: Message) {
-    let written = frames::write_frame(buffer, m);
-    cases::fill(b" -> size %, ", &[written.size as u64]);
-    refusal(written.refusal);
-    cases::buffer_line(buffer, written.size);
-}
-
-fn field(bytes: &[u8], at: usize) -> u32 {
-    let s = cases::from(bytes, at);
-    base::be32(
-        base::byte_at(s, 0),
-        base::byte_at(s, 1),
-        base::byte_at(s, 2),
-        base::byte_at(s, 3),
-    )
 }
 
 // The parts of a case: the buffer's size, the kind, and two fields.
-pub(crate) fn make(words: &[u8], bytes: &[u8]) {
-    let mut buffer = [0xeeu8; 40];
-    let room = base::byte_at(bytes, 0) as usize;
-    let p = made(base::byte_at(bytes, 1), field(bytes, 2), field(bytes, 6));
-    cases::print(words);
-    match p {
-        Parsed::Refused(k) => {
-            cases::print(b" -> no message: ");
-            refusal(k);
-            cases::print(b"\n");
+pub(crate) fn make(rt: &impl Print, case: Case) -> io::Result<()> {
+    let bytes = case.bytes;
+    let first = cases::number(bytes, 2);
+    let second = cases::number(bytes, 6);
+    rt.write_all(case.line)?;
+    match made(base::byte_at(bytes, 1), first, second) {
+        Err(refusal) => println!(rt; " -> no message: {}", turned_away(Some(refusal))),
+        Ok(m) => {
+            let mut buffer = [0xee; 40];
+            let buffer = cases::first(&mut buffer, base::byte_at(bytes, 0) as usize);
+            let answer = frames::write_frame(buffer, m);
+            cases::written(rt, answer, turned_away(answer.err()), buffer)
         }
-        Parsed::Accepted(m) => shown(cases::first(&mut buffer, room), m),
     }
 }
 
 // The refusal of the first so many bytes of an input.
-fn refused(input: &[u8], size: usize) -> u64 {
-    let p = frames::read_frame(cases::up_to(input, size));
-    frames::refusal_in(p) as u64
+fn refused(input: &[u8], size: usize) -> u8 {
+    base::number_if(frames::read_frame(cases::up_to(input, size)).err())
 }
 
 // A length with the refusals of an input one byte shorter than the frame, of the frame, and of an input one byte longer.
-fn row(kind: u8, version: u8, stated: u8) {
-    let mut input = [5u8; 15];
-    input[0] = 0;
-    input[1] = stated;
-    input[2] = version;
-    input[3] = kind;
+fn row(rt: &impl Print, kind: u8, version: u8, stated: u8) -> io::Result<()> {
+    let input = [0, stated, version, kind, 5, 5, 5, 5, 5, 5, 5, 5, 5, 5, 5];
     let size = stated as usize + 2;
-    cases::fill(
-        b"%: % % %",
-        &[
-            stated as u64,
-            refused(&input, size - 1),
-            refused(&input, size),
-            refused(&input, size + 1),
-        ],
-    );
+    let shorter = refused(&input, size - 1);
+    let whole = refused(&input, size);
+    let longer = refused(&input, size + 1);
+    print!(rt; "{stated}: {shorter} {whole} {longer}")
 }
 
 // The lengths 0 to 12. The bytes of a case: kind and version.
-pub(crate) fn table(words: &[u8], bytes: &[u8]) {
-    let kind = base::byte_at(bytes, 0);
-    let version = base::byte_at(bytes, 1);
-    cases::print(words);
-    cases::print(b" -> ");
-    row(kind, version, 0);
-    let mut stated: u8 = 1;
-    while stated < 13 {
-        cases::print(b", ");
-        row(kind, version, stated);
-        stated += 1;
+pub(crate) fn table(rt: &impl Print, case: Case) -> io::Result<()> {
+    let kind = base::byte_at(case.bytes, 0);
+    let version = base::byte_at(case.bytes, 1);
+    rt.write_all(case.line)?;
+    print!(rt; " -> ")?;
+    for stated in 0..13 {
+        if 0 < stated {
+            print!(rt; ", ")?;
+        }
+        row(rt, kind, version, stated)?;
     }
-    cases::print(b"\n");
+    println!(rt)
 }

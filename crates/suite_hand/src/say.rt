@@ -1,62 +1,57 @@
-// A change by hand and a solo finish, in words.
+// A change by hand in words.
 use crate::hand;
+use floor_cases::Decided;
+use register::{ByDepartment, Department};
+use std::fmt;
 
 // Says that a change is of canvas, where its department is.
-pub(crate) fn of_canvas(department: u8) {
-    if department != 0 {
-        cases::print(b", of canvas");
-    }
+pub(crate) fn of_canvas(d: Department) -> &'static str {
+    let of = ByDepartment {
+        sails: "",
+        canvas: ", of canvas",
+    };
+    of.of(d)
 }
 
-// The end of a change by hand: the rows of canvas in use, what a station decided, or that it is of canvas.
-fn change_end(r: [u8; 8]) {
-    let kind = r[0];
-    match kind {
-        0xf0 => {
-            if r[4] != 0 {
-                cases::fill(b", of canvas %", &[r[4] as u64]);
+// A change by hand: the end of it is the rows of canvas in use, what a station decided, or that it is of canvas. Its kind stays a byte,
+// for the reason at `show::by_other`.
+#[derive(Drop)]
+pub(crate) struct Change(pub(crate) [u8; 8]);
+
+impl fmt::Display for Change {
+    fn fmt<W: fmt::Write>(&self, f: &mut fmt::Formatter<W>) -> fmt::Result {
+        let [kind, a, b, c, d, e, department, told] = self.0;
+        let of = of_canvas(Department::from(department));
+        match kind {
+            0xf0 => {
+                write!(f, "by hand: boxes {a}, stations {b}, rows in use {c}")?;
+                match d {
+                    0 => Ok(()),
+                    _ => write!(f, ", of canvas {d}"),
+                }
             }
+            0xf1 => {
+                write!(
+                    f,
+                    "by hand: row {a} of station {b}, read answers received by mask {c}, write answers by mask {d}"
+                )
+            }
+            0xf2 => {
+                write!(
+                    f,
+                    "by hand: box {a} read rank {b}, write rank {c}, value {d}, away {e} (0 no, 1 yes){of}"
+                )
+            }
+            0xf3 => {
+                let states = "0 idle, 1 reading, 2 writing, 3 decided, 4 gone";
+                let decided = Decided(hand::decision(e, told));
+                write!(
+                    f,
+                    "by hand: station {a} in state {b} ({states}), attempt {c}, last round {d}, decided revision {decided}{of}"
+                )
+            }
+            0xf7 => write!(f, "by hand: row {a}, read answers outranked by mask {b}"),
+            _ => write!(f, "{of}"),
         }
-        0xf1 => {}
-        0xf3 => {
-            floor_cases::decision(hand::decision(r[5], r[7]));
-            of_canvas(r[6]);
-        }
-        _ => of_canvas(r[6]),
     }
-}
-
-// A change by hand.
-pub(crate) fn change(r: [u8; 8]) {
-    if r[0] == 0xf7 {
-        cases::fill(
-            b"by hand: row %, read answers outranked by mask %",
-            &[r[1] as u64, r[2] as u64],
-        );
-        return;
-    }
-    cases::pick(
-        b"by hand: boxes %, stations %, rows in use %\
-        |by hand: row % of station %, read answers received by mask %, write answers by mask %\
-        |by hand: box % read rank %, write rank %, value %, away % (0 no, 1 yes)\
-        |by hand: station % in state % (0 idle, 1 reading, 2 writing, 3 decided, 4 gone), attempt %, last round %, \
-        decided revision ",
-        r[0] % 16,
-        &[
-            r[1] as u64,
-            r[2] as u64,
-            r[3] as u64,
-            r[4] as u64,
-            r[5] as u64,
-        ],
-    );
-    change_end(r);
-}
-
-// A solo finish and its steps.
-pub(crate) fn finish(station: u8, revision: u32, steps: u8) {
-    cases::fill(
-        b"solo finish of station %, revision % -> steps %, ",
-        &[station as u64, revision as u64, steps as u64],
-    );
 }

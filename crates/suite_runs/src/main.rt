@@ -6,50 +6,18 @@ mod play;
 mod rounds;
 mod write;
 
-// The longest case is one byte longer than a drill file may be.
-fn case(kind: u8, s: &[u8]) {
-    let bar = cases::find(s, b'|');
-    let words = &s[0..bar];
-    let mut out = [0u8; 32823];
-    let end = cases::bytes(&s[bar..], &mut out);
-    let bytes = cases::up_to(&out, end);
-    match kind {
-        b'f' => play::file(s, bytes),
-        b'p' => play::play(s, bytes),
-        b'r' => play::run(words, bytes),
-        b'n' => play::new_floor(s, bytes),
-        b'a' => rounds::ranks(words, bytes),
-        b'w' => write::parts(s, bytes),
-        b'c' => write::composed(s, bytes),
-        _ => cases::print(b"no such kind of case\n"),
-    }
-}
-
-fn line(s: &[u8]) {
-    let first = base::byte_at(s, 0);
-    match first {
-        b'a'..=b'z' => case(first, s),
-        _ => {
-            cases::print(s);
-            cases::print(b"\n");
-        }
-    }
-}
-
-fn lines(input: &[u8]) {
-    let mut at = 0;
-    while at < input.len() {
-        let end = at + cases::find(&input[at..], b'\n');
-        line(&input[at..end]);
-        if end == input.len() {
-            return;
-        }
-        at = end + 1;
-    }
-}
-
+// A case's kind is the letter that it begins with in the input. Where the output fails, the run ends and nothing is said of it, as there
+// is nowhere to say it.
 fn main() {
-    let mut input = cases::room();
-    let got = io::read_full(0, &mut input);
-    lines(&input[..got]);
+    let out = cases::Output;
+    let _ = cases::play(&out, |case| match case.kind {
+        b'f' => play::file(&out, case),
+        b'p' => play::play(&out, case),
+        b'r' => play::run(&out, case),
+        b'n' => play::new_floor(&out, case),
+        b'a' => rounds::ranks(&out, case),
+        b'w' => write::parts(&out, case),
+        b'c' => write::composed(&out, case),
+        _ => cases::unknown(&out),
+    });
 }

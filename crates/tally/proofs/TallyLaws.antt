@@ -1,23 +1,24 @@
 -- Laws of the tally.
-use Prim.Native.Nat.{ℕ, zero, suc, ◌+◌, ◌≤◌, ◌<◌, ◌^◌, max, min}
-use native.Mathlib.Nat.{le_refl, le-max_left, le-max_right, max-eq_left, max-eq_right, zero-min, min-zero, suc-min-suc, not-suc-le-zero, le_trans, le_of_lt, eq-zero-or-pos, suc-ne-zero}
+use Prim.Native.Nat.{ℕ, zero, suc, ◌+◌, ◌≤◌, ◌<◌, max, min}
+use native.Mathlib.Nat.{max-zero, zero-max, le-max_left, le-max_right, max-eq_left, max-eq_right, zero-min, min-zero, suc-min-suc, not-suc-le-zero, le_trans, le_of_lt, eq-zero-or-pos, suc-ne-zero}
 use native.Mathlib.Numerals.{add-one}
 use native.Mathlib.Omega.{arith}
-use mathlib.Core.Path.{◌≡◌, refl, sym, ap, subst, ◌∙◌}
+use mathlib.Core.Path.{◌≡◌, refl, sym, ap, ap₂, subst, ◌∙◌}
 use mathlib.Core.Logic.{◌⊎◌, inl, inr}
 use mathlib.Core.Bool.{Bool, true, false}
 use mathlib.Core.List.Memᴰ
 use mathlib.Core.List.{List, [], ◌∷◌, Memᴰ}
 use lib.Dec.{ltb}
+use Rattle.std.proofs.Common.{cond, not, count_by}
+use Rattle.std.specs.List.{filter, fold}
+use Rattle.std.proofs.lemmas.List.Sums.{length-filter}
 use borrow.Author.Tests.{ltb-true, ltb-false}
-use lib.ListN.{length, get_or, take, drop, drop_of_length-le}
-use lib.Seq.{drop-cons}
+use lib.ListN.{length, take}
 use Rattle.base.specs.Choice.{when◌then◌else◌}
-use Rattle.base.proofs.Choices.{on_true, on_false}
 use Rattle.register.specs.Register.{register_of}
 use Rattle.register.specs.declared.Department.{Department}
 use Rattle.register.specs.declared.StorageBox.{StorageBox}
-use Rattle.tally.specs.Tally.{not_away, highest_write, tally_of, one_more}
+use Rattle.tally.specs.Tally.{not_away, highest_write, tally_of}
 use Rattle.tally.specs.Claims.{Counts, TallyTheorem}
 use Rattle.tally.specs.declared.Tally.{Tally}
 
@@ -27,8 +28,31 @@ take_min zero l = rw zero-min refl
 take_min (suc n) [] = rw min-zero refl
 take_min {A = A} (suc n) (x ∷ l) = rw suc-min-suc (ap (λ (k : List A). x ∷ k) (take_min n l))
 
+-- the boxes that are not away, and the highest rank of some, in the library's words
+kept_or_not : (t : Bool) (y : StorageBox) (l : List StorageBox) → cond (not t) (y ∷ l) l ≡ (when t then l else y ∷ l)
+unfolding when◌then◌else◌
+kept_or_not true y l = refl
+kept_or_not false y l = refl
+
+going : (ys : List StorageBox) → filter (λ y. not y.away) ys ≡ not_away ys
+unfolding not_away
+going [] = refl
+going (y ∷ ys) = ap (λ (l : List StorageBox). cond (not y.away) (y ∷ l) l) (going ys) ∙ kept_or_not y.away y (not_away ys)
+
+highest_from : (d : Department) (h : ℕ) (ys : List StorageBox) → fold (λ h y. max h (register_of d y).write) h ys ≡ max h (highest_write d ys)
+unfolding highest_write
+highest_from d h [] = sym (max-zero h)
+highest_from d h (y ∷ ys) = highest_from d (max h (register_of d y).write) ys ∙ grind arith
+
 -- a department and its tally
 module _ (d : Department) where
+  pub tallies : (c h : ℕ) (ys : List StorageBox) → c ≡ count_by (λ y. not y.away) ys → h ≡ fold (λ h y. max h (register_of d y).write) 0 (filter (λ y. not y.away) ys)
+      → record { count = c; highest = h } ≡ tally_of d ys
+  unfolding tally_of
+  tallies c h ys e f =
+      ap₂ (λ (m n : ℕ). record { count = m; highest = n }) (e ∙ sym (length-filter (λ y. not y.away) ys) ∙ ap length (going ys))
+      (f ∙ highest_from d 0 (filter (λ y. not y.away) ys) ∙ zero-max _ ∙ ap (highest_write d) (going ys))
+
   -- a tally begins with 0 and 0
   pub tally_nil : tally_of d [] ≡ record { count = 0; highest = 0 }
   unfolding tally_of not_away highest_write
@@ -42,37 +66,6 @@ module _ (d : Department) where
   pub tally_going : (y : StorageBox) (ys : List StorageBox) → y.away ≡ false → tally_of d (y ∷ ys) ≡ record { count = (tally_of d ys).count + 1; highest = max (tally_of d ys).highest (register_of d y).write }
   unfolding tally_of not_away highest_write when◌then◌else◌
   tally_going y ys e = rw (e, add-one) refl
-
-  cons_by : (s : Bool) (y : StorageBox) (ys : List StorageBox) → y.away ≡ s → tally_of d (y ∷ ys) ≡ one_more d y (tally_of d ys)
-  unfolding one_more
-  cons_by true y ys e = on_true _ e (tally_away y ys e)
-  cons_by false y ys e = on_false _ e (tally_going y ys e)
-
-  pub tally_cons : (y : StorageBox) (ys : List StorageBox) → tally_of d (y ∷ ys) ≡ one_more d y (tally_of d ys)
-  tally_cons y ys = cons_by y.away y ys refl
-
-  -- the tally of the boxes from j on, from that of the boxes behind box j
-  pub tally_at : (ys : List StorageBox) (i j : ℕ) (x : StorageBox) (t r : Tally) → i ≡ suc j → j < length ys → t ≡ tally_of d (drop i ys) → r ≡ one_more d (get_or ys j x) t → r ≡ tally_of d (drop j ys)
-  tally_at ys i j x t r n h e f =
-      f ∙ ap (one_more d (get_or ys j x)) (e ∙ ap (λ (m : ℕ). tally_of d (drop m ys)) n)
-      ∙ sym (tally_cons (get_or ys j x) (drop (suc j) ys)) ∙ ap (tally_of d) (sym (drop-cons ys j x h))
-
-  -- behind the last box there is nothing to count
-  pub tally_end : (ys : List StorageBox) (i : ℕ) → length ys ≤ i → record { count = 0; highest = 0 } ≡ tally_of d (drop i ys)
-  tally_end ys i h = sym tally_nil ∙ ap (tally_of d) (sym (drop_of_length-le ys h))
-
-  -- no more are counted than there are
-  count_by : (s : Bool) (y : StorageBox) (ys : List StorageBox) → y.away ≡ s → (tally_of d ys).count ≤ length ys → (tally_of d (y ∷ ys)).count ≤ length (y ∷ ys)
-  count_by true y ys e h = rw (tally_away y ys e) (omega (arith, h))
-  count_by false y ys e h = rw (tally_going y ys e) (omega (arith, h))
-
-  pub count_le : (ys : List StorageBox) → (tally_of d ys).count ≤ length ys
-  count_le [] = rw tally_nil (le_refl 0)
-  count_le (y ∷ ys) = count_by y.away y ys refl (count_le ys)
-
-  -- so that the count of fewer than 2 ^ 64 - 1 boxes has room for one more
-  pub count_fits : (t : Tally) (ys : List StorageBox) → t ≡ tally_of d ys → length ys + 1 < 2 ^ 64 → t.count + 1 < 2 ^ 64
-  count_fits t ys e h = omega (arith, subst (λ (u : Tally). u.count ≤ length ys) (sym e) (count_le ys))
 
   -- ---- the tally as facts
   -- no box that is not away has a higher write rank

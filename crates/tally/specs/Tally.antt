@@ -1,7 +1,7 @@
 -- Document 01, "The box routine": "A tally takes a lent run of box records and returns how many have not stopped and the highest
 -- write rank among those; a run with none of these, or empty, gives 0 and 0." Wish 6 of document 02: "Each box keeps one record a
 -- department, and the tally is told which." Wish 8: ""Answering" means not away, in the tally too."
-use Rattle.std.specs.Prelude.{ℕ, ◌+◌, max, List, [], ◌∷◌, length}
+use Rattle.std.specs.Prelude.{ℕ, max, List, [], ◌∷◌, length}
 use Rattle.base.specs.Choice.{when◌then◌else◌}
 use Rattle.register.specs.Register.{register_of}
 use Rattle.register.specs.declared.Department.{Department}
@@ -21,7 +21,3 @@ highest_write d (y ∷ ys) = max (highest_write d ys) (register_of d y).write
 -- "how many have not stopped and the highest write rank among those": the tally of the department
 unfoldable pub tally_of : (department : Department) (run : List StorageBox) → Tally
 tally_of d ys = record { count = length (not_away ys); highest = highest_write d (not_away ys) }
-
--- a tally with one box more
-unfoldable pub one_more : (department : Department) (y : StorageBox) (t : Tally) → Tally
-one_more d y t = when y.away then t else record { count = t.count + 1; highest = max t.highest (register_of d y).write }

@@ -2,8 +2,10 @@
 // among those. Wish 6 of document 02: "Each box keeps one record a department, and the tally is told which."
 #![tactic(auto)]
 
-ghost use Rattle.std.specs.Prelude.{◌≡◌, ◌+◌, ◌≤◌, ◌<◌, ◌^◌, min, take};
-ghost use Rattle.tally.specs.Tally.{one_more, tally_of};
+ghost use Rattle.std.specs.Prelude.{◌≡◌, max, not, take, count_by};
+ghost use Rattle.std.specs.List.{filter, fold};
+ghost use Rattle.register.specs.Register.{register_of};
+ghost use Rattle.tally.specs.Tally.{tally_of};
 
 use register::{Department, StorageBox};
 
@@ -14,84 +16,46 @@ pub struct Tally {
     pub highest: u32,
 }
 
-// A department's tally with one box more.
-fn with_box(b: StorageBox, d: Department, t: Tally) -> Tally
-    requires { t.count + 1 < 2 ^ 64 }
-    ensures { result ≡ one_more d b t }
+// The highest write rank of a department among the boxes that are not away, 0 where there are none.
+fn highest_going(boxes: &[StorageBox], d: Department) -> u32
+    ensures { result ≡ fold (λ h y. max h (register_of d y).write) 0 (filter (λ y. not y.away) boxes.now) }
 {
-    if b.away {
-        return t;
-    }
-    let x = register::register_of(b, d);
-    let rank = x.write;
-    if t.highest < rank {
-        return Tally {
-            count: t.count + 1,
-            highest: rank,
-        };
-    }
-    Tally {
-        count: t.count + 1,
-        highest: t.highest,
-    }
+    boxes
+        .iter()
+        .filter(|b| !b.away)
+        .fold(0, |h: u32, b| h.max(b.registers.of(d).write))
 }
 
-// The smaller of a number and a limit.
-fn at_most(n: u8, limit: usize) -> usize
-    ensures { result ≡ min n limit }
-{
-    let k = n as usize;
-    if k < limit {
-        return k;
-    }
-    limit
-}
-
-// The department's tally of the first n boxes of a floor, by value; of all nine where n is more.
-pub fn tally_floor(boxes: [StorageBox; 9], n: u8, d: Department) -> Tally
-    ensures { result ≡ tally_of d (take n boxes) }
-{
-    let mut t = Tally {
-        count: 0,
-        highest: 0,
-    };
-    let mut left = at_most(n, 9);
-    while 0 < left {
-        left -= 1;
-        let b = boxes[left];
-        t = with_box(b, d, t);
-    }
-    t
-}
-
-// The department's tally of a lent run of boxes, taken from the last to the first.
+// The department's tally of a lent run of boxes.
+#[tactic(auto, using(crate::proofs::TallyLaws::tallies))]
 pub fn tally_of(boxes: &[StorageBox], d: Department) -> Tally
     ensures { result ≡ tally_of d boxes.now }
 {
-    let mut t = Tally {
-        count: 0,
-        highest: 0,
-    };
-    let mut i = boxes.len();
-    while 0 < i {
-        i -= 1;
-        t = with_box(boxes[i], d, t);
+    Tally {
+        count: register::count_going(boxes),
+        highest: highest_going(boxes, d),
     }
-    t
 }
 
-// Lends the first n boxes of an array to `tally_of`.
-fn lend(boxes: [StorageBox; 16], n: usize, d: Department) -> Tally
-    requires { n ≤ 16 }
+// That of the first n boxes of an array, by value; of all of them where n is more.
+#[tactic(auto, using(crate::proofs::TallyLaws::take_min))]
+fn tally_first<const N: usize>(boxes: [StorageBox; N], n: u8, d: Department) -> Tally
+    ensures { result ≡ tally_of d (take n boxes.entry) }
+{
+    let k = (n as usize).min(N);
+    tally_of(&boxes[..k], d)
+}
+
+// The department's tally of the first n boxes of a floor: document 01's form, over the floor's array by value.
+pub fn tally_floor(boxes: [StorageBox; 9], n: u8, d: Department) -> Tally
     ensures { result ≡ tally_of d (take n boxes) }
 {
-    tally_of(&boxes[..n], d)
+    tally_first(boxes, n, d)
 }
 
-// The department's tally of a run of at most 16 boxes, lent as a slice: for callers that hold an array by value. All 16 are lent where n
-// is more.
+// The department's tally of a run of at most 16 boxes: for callers that hold an array by value (docs/DECISIONS.md, reading 16).
 pub fn tally_lent(boxes: [StorageBox; 16], n: u8, d: Department) -> Tally
     ensures { result ≡ tally_of d (take n boxes) }
 {
-    lend(boxes, at_most(n, 16), d)
+    tally_first(boxes, n, d)
 }

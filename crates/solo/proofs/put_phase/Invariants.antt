@@ -1,9 +1,6 @@
-use Prim.Native.Nat.{◌-◌}
 use Rattle.solo.proofs.WrittenLaws.{Writing}
 use Rattle.solo.proofs.put_phase.Given as goal
 
 abbrev pub invariant-loop-b : goal.invariant-loop-b
-invariant-loop-b l = Writing l.initial.out l.at l.n l.p l.a l.boxes l.out l.end l.left l.b
-
-abbrev pub decreases-loop-b : goal.decreases-loop-b
-decreases-loop-b l = l.n - l.b
+invariant-loop-b l =
+    (goal.iterator-loop-b).can_next l.b-iterator × (goal.iterator-loop-b).is_finite l.b-iterator × Writing l.initial.out l.at l.p l.a l.out l.end l.yielded
