@@ -2,16 +2,23 @@
 ghost use Rattle.std.specs.Prelude.{◌≡◌, true, take, drop, ◌++◌, length};
 
 use crate::text;
-use std::fmt;
+use std::{fmt, str};
 
-// Bytes, each as two hexadecimal digits behind a space.
+const DIGITS: [u8; 16] = *b"0123456789abcdef";
+
+// Bytes, each as two hexadecimal digits behind a space. By sixteen, since each piece of a text is written by a call of its own.
 #[derive(Drop)]
 pub struct Hex<'a>(pub &'a [u8]);
 
 impl fmt::Display for Hex<'_> {
     fn fmt<W: fmt::Write>(&self, f: &mut fmt::Formatter<W>) -> fmt::Result {
-        for b in self.0 {
-            write!(f, " {b:02x}")?;
+        for part in self.0.chunks(16) {
+            let mut text = [b' '; 48];
+            for (k, &b) in part.iter().enumerate() {
+                text[3 * k + 1] = DIGITS[usize::from(b / 16)];
+                text[3 * k + 2] = DIGITS[usize::from(b % 16)];
+            }
+            f.write_str(str::from_utf8(&text[..(3 * part.len()).min(48)]).unwrap_or(""))?;
         }
         Ok(())
     }

@@ -1,7 +1,9 @@
 -- What the writer's functions go by: the parts that pass its tests, how long their file is, and the file as four runs of bytes.
 use Prim.Native.Nat.{ℕ, zero, suc, ◌+◌, ◌-◌, ◌*◌, ◌/◌, ◌%◌, ◌≤◌, ◌<◌}
+use native.Mathlib.Nat.{eq-or-lt_of_le}
 use native.Mathlib.Omega.{arith}
-use mathlib.Core.Path.{◌≡◌, refl, sym, ap, ap₂, ◌∙◌}
+use mathlib.Core.Path.{◌≡◌, refl, sym, ap, ap₂, subst, ◌∙◌}
+use mathlib.Core.Logic.{inl, inr}
 use mathlib.Core.Bool.{Bool, true, false, not}
 use mathlib.Core.List.{List, [], ◌∷◌, ◌++◌, flatten, append_assoc}
 use borrow.Author.Tests.{le-ltb, ltb-true, ltb-false, eqb-false, eq-eqb, ne_eqb, not-true, not-false}
@@ -69,18 +71,31 @@ module _ (kind : ℕ) where
   abbrev Kind : List (List ℕ) → ℕ → Type 0
   Kind rs i = get_or (get_or rs i []) 0 0 ≡ kind
 
+  -- none of the first so many is, as the code looks at one after the other
+  abbrev pub NoneOf : List (List ℕ) → ℕ → Type 0
+  NoneOf rs k = (i : ℕ) → i < k → ¬ Kind rs i
+
+  pub none_begins : (rs : List (List ℕ)) → NoneOf rs 0
+  none_begins rs i h = absurd (omega arith)
+
+  pub none_further : (rs : List (List ℕ)) (k : ℕ) → NoneOf rs k → ¬ Kind rs k → NoneOf rs (k + 1)
+  none_further rs k n u i h = elim (eq-or-lt_of_le h) [
+    | inl e ↦ subst (λ (j : ℕ). ¬ Kind rs j) (let e' : suc i ≡ k + 1 = e in omega arith) u
+    | inr l ↦ n i (omega (arith, l))
+  ]
+
   kinds_mean : (rs : List (List ℕ)) → has_kind kind rs ≡ false → (i : ℕ) → i < length rs → ¬ Kind rs i
   unfolding has_kind
   kinds_mean [] e i h = absurd (omega arith)
   kinds_mean (r ∷ rs) e zero h = eqb-false _ _ (or_parts _ _ e).0
   kinds_mean (r ∷ rs) e (suc i) h = kinds_mean rs (or_parts _ _ e).1 i (omega arith)
 
-  kinds_hold : (rs : List (List ℕ)) → ((i : ℕ) → i < length rs → ¬ Kind rs i) → has_kind kind rs ≡ false
+  pub kinds_hold : (rs : List (List ℕ)) → ((i : ℕ) → i < length rs → ¬ Kind rs i) → has_kind kind rs ≡ false
   unfolding has_kind
   kinds_hold [] n = refl
   kinds_hold (r ∷ rs) n = or_from _ _ (ne_eqb _ _ (n 0 (omega arith))) (kinds_hold rs (λ i h. n (suc i) (omega arith)))
 
-  kind_holds : (rs : List (List ℕ)) (i : ℕ) → i < length rs → Kind rs i → has_kind kind rs ≡ true
+  pub kind_holds : (rs : List (List ℕ)) (i : ℕ) → i < length rs → Kind rs i → has_kind kind rs ≡ true
   unfolding has_kind
   kind_holds rs i h e = list_any_at _ rs i [] h (eq-eqb _ _ e)
 

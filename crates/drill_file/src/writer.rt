@@ -39,7 +39,12 @@ fn wrong_given(version: u8, m: u8, departments: &[u8]) -> bool
 fn has_kind(kind: u8, records: &[[u8; 8]]) -> bool
     ensures { result ≡ has_kind kind records.now }
 {
-    records.iter().any(|&record| record[0] == kind)
+    for record in records {
+        if record[0] == kind {
+            return true;
+        }
+    }
+    false
 }
 
 // Refusal 7, of records given as their bytes.

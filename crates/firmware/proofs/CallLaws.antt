@@ -14,7 +14,7 @@ use Rattle.std.proofs.lemmas.Bool.{or_from, or_left, or_right}
 use Rattle.suits.specs.Suits.{single}
 use Rattle.base.specs.Bytes.{Bytes}
 use Rattle.base.proofs.Choices.{on_true, on_false, by_test}
-use Rattle.register.specs.Register.{is_held, number_in, rank_in, value_in, rmw_read, takes, rmw_write}
+use Rattle.register.specs.Register.{outranks, is_held, number_in, rank_in, value_in, rmw_read, takes, rmw_write}
 use Rattle.register.proofs.RegisterLaws.{ReadCase, outranked, answered, read_case, write_refused, write_answers}
 use Rattle.register.specs.declared.Register.{Register}
 use Rattle.register.specs.declared.Answer.{Answer}
@@ -44,6 +44,12 @@ module _ (x : Register) (r : ℕ) (f : Fits32 x) (g : r < 2 ^ 32) where
   unfolding rmw_write
   write_fits v k =
       by_test (λ (d : WriteDone). Fits32 d.register) (takes x r) _ _ (λ _. record { read = f.read; write = g; value = k }) (λ _. f)
+
+-- a read changes the read rank alone
+pub read_keeps : (x : Register) (r : ℕ) → record { read = (rmw_read x r).register.read; write = x.write; value = x.value } ≡ (rmw_read x r).register
+unfolding rmw_read
+read_keeps x r =
+    by_test (λ (d : ReadDone). record { read = d.register.read; write = x.write; value = x.value } ≡ d.register) (outranks x r) _ _ (λ _. refl) (λ _. refl)
 
 -- the numbers of a read's answer
 held_number : (a : Option Answer) → is_held a ≡ true → 0 ≡ number_in a

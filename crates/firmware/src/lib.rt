@@ -30,23 +30,27 @@ fn decode(bytes: [u8; 12]) -> Register
     }
 }
 
-#[tactic(auto, unfolding(crate::specs::Firmware::encode))]
-fn encode(x: Register) -> [u8; 12]
-    ensures { result ≡ encode x }
+// Stores a register in a record; a read rank alone, where nothing else of it changed; and the two words of an answer in a reply. Word by
+// word: the compiler stores the bytes of an array that is made of words one by one.
+fn store(bytes: &mut [u8; 12], x: Register)
+    ensures { bytes.new ≡ encode x }
 {
-    let [r0, r1, r2, r3] = base::split32(x.read);
-    let [w0, w1, w2, w3] = base::split32(x.write);
-    let [v0, v1, v2, v3] = base::split32(x.value.r0);
-    [r0, r1, r2, r3, w0, w1, w2, w3, v0, v1, v2, v3]
+    base::put_u32(bytes, 0, x.read);
+    base::put_u32(bytes, 4, x.write);
+    base::put_u32(bytes, 8, x.value.r0);
 }
 
-#[tactic(auto, unfolding(crate::specs::Firmware::reply_of))]
-fn reply_of(rank: u32, value: u32) -> [u8; 8]
-    ensures { result ≡ reply_of rank value }
+fn store_read_rank(bytes: &mut [u8; 12], rank: u32)
+    ensures { bytes.new ≡ encode (record { read = rank; write = (decode bytes.old).write; value = (decode bytes.old).value }) }
 {
-    let [r0, r1, r2, r3] = base::split32(rank);
-    let [v0, v1, v2, v3] = base::split32(value);
-    [r0, r1, r2, r3, v0, v1, v2, v3]
+    base::put_u32(bytes, 0, rank);
+}
+
+fn fill(reply: &mut [u8; 8], rank: u32, value: u32)
+    ensures { reply.new ≡ reply_of rank value }
+{
+    base::put_u32(reply, 0, rank);
+    base::put_u32(reply, 4, value);
 }
 
 // ---- What C is answered
@@ -78,7 +82,7 @@ fn answer_written(written: Result<usize, Refusal>, size: &mut usize) -> u32
 
 // A read: the record's read rank becomes the rank, and the reply is filled with write rank and value. 100 where its read rank or its
 // write rank is above the rank: then the record stays as it is, and the reply is zeroed.
-#[tactic(auto, using(base::proofs::Tests::picks), unfolding(crate::specs::Firmware::read_answer, crate::specs::Firmware::record_after_read, crate::specs::Firmware::reply_after_read))]
+#[tactic(auto, using(base::proofs::Tests::picks, crate::proofs::CallLaws::read_keeps), unfolding(crate::specs::Firmware::read_answer, crate::specs::Firmware::record_after_read, crate::specs::Firmware::reply_after_read))]
 pub fn box_read(bytes: &mut [u8], rank: u32, reply: &mut [u8]) -> u32
     ensures answer { result ≡ read_answer bytes.old rank reply.old }
     ensures kept { bytes.new ≡ record_after_read bytes.old rank reply.old }
@@ -96,8 +100,8 @@ pub fn box_read(bytes: &mut [u8], rank: u32, reply: &mut [u8]) -> u32
     let done = decode(*record).rmw_read(rank);
     match done.answer {
         Some(held) => {
-            *record = encode(done.register);
-            *filled = reply_of(held.rank, held.value.r0);
+            store_read_rank(record, done.register.read);
+            fill(filled, held.rank, held.value.r0);
             0
         }
         None => {
@@ -121,7 +125,7 @@ pub fn box_write(bytes: &mut [u8], rank: u32, revision: u32) -> u32
     }
     let done = decode(*record).rmw_write(rank, suits::of_one(revision));
     if done.taken {
-        *record = encode(done.register);
+        store(record, done.register);
         return 0;
     }
     100

@@ -64,7 +64,7 @@ fn store(bytes: &mut [u8], x: Register)
     ensures { bytes.new ≡ (when eqb (length bytes.old) 12 then encode x else bytes.old) }
 {
     if let Some(record) = bytes.as_mut_array() {
-        *record = crate::encode(x);
+        crate::store(record, x);
     }
 }
 

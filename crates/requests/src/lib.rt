@@ -154,12 +154,12 @@ pub fn at_quorum(q: Requests, n: u8) -> bool
 pub fn all_yes(q: Requests, n: u8) -> bool
     ensures { result ≡ all_yes q n }
 {
-    for b in 0..n {
-        if heard_from(q, b) && !slot_at(q, b).ok {
+    for b in 0..n.min(9) {
+        if heard_from(q, b) && !q.slots[b as usize].ok {
             return false;
         }
     }
-    true
+    n <= 9 || masks::count_below(q.heard, n) == masks::count_below(q.heard, 9)
 }
 
 // Reads end with the first answer that says no, or with the q-th.

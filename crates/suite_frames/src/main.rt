@@ -3,8 +3,7 @@
 
 mod frame;
 
-// A case's kind is the letter that it begins with in the input. Where the output fails, the run ends and nothing is said of it, as there
-// is nowhere to say it.
+// A case's kind is the letter that it begins with in the input. The output passes over what it can't write, so no error comes of it.
 fn main() {
     let out = cases::Output;
     let _ = cases::play(&out, |case| match case.kind {

@@ -1,6 +1,6 @@
 -- Laws of the tally.
 use Prim.Native.Nat.{ℕ, zero, suc, ◌+◌, ◌≤◌, ◌<◌, max, min}
-use native.Mathlib.Nat.{max-zero, zero-max, le-max_left, le-max_right, max-eq_left, max-eq_right, zero-min, min-zero, suc-min-suc, not-suc-le-zero, le_trans, le_of_lt, eq-zero-or-pos, suc-ne-zero}
+use native.Mathlib.Nat.{le_refl, max-zero, zero-max, le-max_left, le-max_right, max-eq_left, max-eq_right, zero-min, min-zero, suc-min-suc, not-suc-le-zero, le_trans, le_of_lt, eq-zero-or-pos, suc-ne-zero}
 use native.Mathlib.Numerals.{add-one}
 use native.Mathlib.Omega.{arith}
 use mathlib.Core.Path.{◌≡◌, refl, sym, ap, ap₂, subst, ◌∙◌}
@@ -13,7 +13,8 @@ use Rattle.std.proofs.Common.{cond, not, count_by}
 use Rattle.std.specs.List.{filter, fold}
 use Rattle.std.proofs.lemmas.List.Sums.{length-filter}
 use borrow.Author.Tests.{ltb-true, ltb-false}
-use lib.ListN.{length, take}
+use lib.ListN.{length, get_or, take, drop, drop_of_length-le}
+use lib.Seq.{drop-cons}
 use Rattle.base.specs.Choice.{when◌then◌else◌}
 use Rattle.register.specs.Register.{register_of}
 use Rattle.register.specs.declared.Department.{Department}
@@ -46,6 +47,7 @@ highest_from d h (y ∷ ys) = highest_from d (max h (register_of d y).write) ys 
 
 -- a department and its tally
 module _ (d : Department) where
+  -- in the library's words
   pub tallies : (c h : ℕ) (ys : List StorageBox) → c ≡ count_by (λ y. not y.away) ys → h ≡ fold (λ h y. max h (register_of d y).write) 0 (filter (λ y. not y.away) ys)
       → record { count = c; highest = h } ≡ tally_of d ys
   unfolding tally_of
@@ -66,6 +68,39 @@ module _ (d : Department) where
   pub tally_going : (y : StorageBox) (ys : List StorageBox) → y.away ≡ false → tally_of d (y ∷ ys) ≡ record { count = (tally_of d ys).count + 1; highest = max (tally_of d ys).highest (register_of d y).write }
   unfolding tally_of not_away highest_write when◌then◌else◌
   tally_going y ys e = rw (e, add-one) refl
+
+  -- no more are counted than there are
+  count_behind : (s : Bool) (y : StorageBox) (ys : List StorageBox) → y.away ≡ s → (tally_of d ys).count ≤ length ys → (tally_of d (y ∷ ys)).count ≤ length (y ∷ ys)
+  count_behind true y ys e h = rw (tally_away y ys e) (omega (arith, h))
+  count_behind false y ys e h = rw (tally_going y ys e) (omega (arith, h))
+
+  pub count_le : (ys : List StorageBox) → (tally_of d ys).count ≤ length ys
+  count_le [] = rw tally_nil (le_refl 0)
+  count_le (y ∷ ys) = count_behind y.away y ys refl (count_le ys)
+
+  -- the tally of a run, from that of the boxes seen and that of those from a place on
+  abbrev pub Joined : List StorageBox → ℕ → Tally → Type 0
+  Joined ys k t = tally_of d ys ≡ record { count = t.count + (tally_of d (drop k ys)).count; highest = max t.highest (tally_of d (drop k ys)).highest }
+
+  module _ (ys : List StorageBox) (k : ℕ) (y x : StorageBox) (l : k < length ys) (e : get_or ys k x ≡ y) (t : Tally) (j : Joined ys k t) where
+    at_place : drop k ys ≡ y ∷ drop (k + 1) ys
+    at_place = drop-cons ys k x l ∙ ap₂ (λ (z : StorageBox) (zs : List StorageBox). z ∷ zs) e (ap (λ (m : ℕ). drop m ys) (sym (add-one k)))
+
+    pub joined_away : y.away ≡ true → Joined ys (k + 1) t
+    joined_away a =
+        let u = ap (tally_of d) at_place ∙ tally_away y (drop (k + 1) ys) a in
+        j ∙ ap (λ (u : Tally). record { count = t.count + u.count; highest = max t.highest u.highest }) u
+
+    pub joined_going : y.away ≡ false → Joined ys (k + 1) (record { count = t.count + 1; highest = max t.highest (register_of d y).write })
+    joined_going a =
+        let u = ap (tally_of d) at_place ∙ tally_going y (drop (k + 1) ys) a in
+        j ∙ ap (λ (u : Tally). record { count = t.count + u.count; highest = max t.highest u.highest }) u
+        ∙ ap₂ (λ (m n : ℕ). record { count = m; highest = n }) (omega arith) (omega arith)
+
+  pub joined_last : (ys : List StorageBox) (k : ℕ) (t : Tally) → length ys ≤ k → Joined ys k t → t ≡ tally_of d ys
+  joined_last ys k t h j =
+      sym (j ∙ ap (λ (u : Tally). record { count = t.count + u.count; highest = max t.highest u.highest }) (ap (tally_of d) (drop_of_length-le ys h) ∙ tally_nil)
+      ∙ ap₂ (λ (m n : ℕ). record { count = m; highest = n }) (omega arith) (omega arith))
 
   -- ---- the tally as facts
   -- no box that is not away has a higher write rank

@@ -2,9 +2,7 @@
 // among those. Wish 6 of document 02: "Each box keeps one record a department, and the tally is told which."
 #![tactic(auto)]
 
-ghost use Rattle.std.specs.Prelude.{◌≡◌, max, not, take, count_by};
-ghost use Rattle.std.specs.List.{filter, fold};
-ghost use Rattle.register.specs.Register.{register_of};
+ghost use Rattle.std.specs.Prelude.{◌≡◌, take};
 ghost use Rattle.tally.specs.Tally.{tally_of};
 
 use register::{Department, StorageBox};
@@ -16,25 +14,23 @@ pub struct Tally {
     pub highest: u32,
 }
 
-// The highest write rank of a department among the boxes that are not away, 0 where there are none.
-fn highest_going(boxes: &[StorageBox], d: Department) -> u32
-    ensures { result ≡ fold (λ h y. max h (register_of d y).write) 0 (filter (λ y. not y.away) boxes.now) }
-{
-    boxes
-        .iter()
-        .filter(|b| !b.away)
-        .fold(0, |h: u32, b| h.max(b.registers.of(d).write))
-}
-
-// The department's tally of a lent run of boxes.
-#[tactic(auto, using(crate::proofs::TallyLaws::tallies))]
+// The department's tally of a lent run of boxes, in one pass.
 pub fn tally_of(boxes: &[StorageBox], d: Department) -> Tally
     ensures { result ≡ tally_of d boxes.now }
 {
-    Tally {
-        count: register::count_going(boxes),
-        highest: highest_going(boxes, d),
+    let mut t = Tally {
+        count: 0,
+        highest: 0,
+    };
+    for b in boxes {
+        if !b.away {
+            t = Tally {
+                count: t.count + 1,
+                highest: t.highest.max(b.registers.of(d).write),
+            };
+        }
     }
+    t
 }
 
 // That of the first n boxes of an array, by value; of all of them where n is more.
