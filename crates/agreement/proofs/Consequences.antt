@@ -12,7 +12,6 @@ use lib.ListN.{length, get_or, get_or-eq_default}
 use borrow.Author.Tests.{lt-leb}
 use Rattle.suits.specs.declared.Suit.{Suit}
 use Rattle.base.specs.Choice.{when◌then◌else◌}
-use Rattle.base.specs.Refusals.{named}
 use Rattle.base.proofs.Choices.{on_true, on_false}
 use Rattle.register.specs.declared.Department.{Department}
 use Rattle.floor.specs.Floors.{station_at, department_at}
@@ -62,20 +61,20 @@ module _ (f : Floor) (z : Sound f) (s round : ℕ) (v : Suit) (h : s < f.m) wher
   abbrev c : Command
   c = Begin s round v
 
-  begin_refused : (k : ℕ) → 0 < k → begin_refusal f s round ≡ k → (apply_of f c).outcome ≡ said.Refused (named k)
-  begin_refused k p q = ap (λ (x : Stepped). x.outcome) (apply_refused f c z (λ e. omega arith)) ∙ ap (λ (n : ℕ). said.Refused (named n)) q
+  begin_refused : (k : ℕ) → 0 < k → begin_refusal f s round ≡ k → (apply_of f c).outcome ≡ said.Refused k
+  begin_refused k p q = ap (λ (x : Stepped). x.outcome) (apply_refused f c z (λ e. omega arith)) ∙ ap said.Refused q
 
-  begin_gone : is_gone (station_at f s).state ≡ true → (apply_of f c).outcome ≡ said.Refused (named 9)
+  begin_gone : is_gone (station_at f s).state ≡ true → (apply_of f c).outcome ≡ said.Refused 9
   unfolding begin_refusal
   begin_gone g = begin_refused 9 (omega arith) (sym (on_false _ (lt-leb _ _ h) (on_true _ g refl)))
 
-  begin_busy : is_gone (station_at f s).state ≡ false → is_busy (station_at f s).state ≡ true → (apply_of f c).outcome ≡ said.Refused (named 10)
+  begin_busy : is_gone (station_at f s).state ≡ false → is_busy (station_at f s).state ≡ true → (apply_of f c).outcome ≡ said.Refused 10
   unfolding begin_refusal
   begin_busy g b =
       begin_refused 10 (omega arith) (sym (on_false _ (lt-leb _ _ h) (on_false _ g (on_true _ b refl))))
 
 begin_over : (f : Floor) → Sound f → (s round : ℕ) (v : Suit) → s < f.m → (st : State) → (station_at f s).state ≡ st → is_over st ≡ true
-    → ((apply_of f (Begin s round v)).outcome ≡ said.Refused (named 9)) ⊎ ((apply_of f (Begin s round v)).outcome ≡ said.Refused (named 10))
+    → ((apply_of f (Begin s round v)).outcome ≡ said.Refused 9) ⊎ ((apply_of f (Begin s round v)).outcome ≡ said.Refused 10)
 begin_over f z s r v h Idle e o = clash o refl
 begin_over f z s r v h (Reading a) e o = clash o refl
 begin_over f z s r v h (Writing a) e o = clash o refl
@@ -108,10 +107,10 @@ module _ (f : Floor) (l : List (List ℕ)) (new : New f) where
       y.1 ∙ ap Some (agreement f l new (attempt_department (trace_of f l) d.attempt) x.at k y.0 v (same_department s y.0 v x.at k x.holds d) (decided_in_lem f l new s v k d))
 
   over : Sound f → (s : ℕ) (v : Suit) (k i round : ℕ) (u : Suit) → DecidesAt (trace_of f l) s v k → k < i → command_at l i ≡ Begin s round u
-      → (said_at f l i ≡ said.Refused (named 9)) ⊎ (said_at f l i ≡ said.Refused (named 10))
+      → (said_at f l i ≡ said.Refused 9) ⊎ (said_at f l i ≡ said.Refused 10)
   unfolding step_of
   over z s v k i round u d h e =
-      subst (λ (c : Command). ((apply_of (floor_at f l i) c).outcome ≡ said.Refused (named 9)) ⊎ ((apply_of (floor_at f l i) c).outcome ≡ said.Refused (named 10))) (sym e)
+      subst (λ (c : Command). ((apply_of (floor_at f l i) c).outcome ≡ said.Refused 9) ⊎ ((apply_of (floor_at f l i) c).outcome ≡ said.Refused 10)) (sym e)
       (begin_over (floor_at f l i) (sound_at f l z i) s round u (omega (arith, station_below z s v k d, stations_at f l i)) _ refl (over_since f l new s v k i d h))
 
 pub consequences : ConsequencesTheorem

@@ -31,7 +31,6 @@ use Rattle.machine.specs.Runs.{Run}
 use Rattle.machine.specs.Runs as runs
 use Rattle.panel.specs.Panel.{figure1, station_for, panel, within, label_of}
 use Rattle.panel.proofs.Simulation.{quiet_within, simulates}
-use Rattle.base.specs.Refusals.{named}
 use Rattle.commands.specs.Commands.{command_of}
 use Rattle.floor.proofs.Reached.{New, size_at, lengths_at, owned_at}
 use Rattle.floor.specs.Runs.{command_at}
@@ -54,7 +53,7 @@ says_within Canvas Sails c o t k = tt
 says_within Canvas Canvas c o t k = k refl
 
 case_says : {f : Floor} {c : Command} {s : Stepped} (d : Department) (x : StepCase f c s) → Says d c s.outcome (label_of d f c s.outcome)
-case_says {f} {c} d (turned k t) = subst (Says d c (said.Refused (named k))) (quiet_within d (department_of f c)) tt
+case_says {f} {c} d (turned k t) = subst (Says d c (said.Refused k)) (quiet_within d (department_of f c)) tt
 case_says {f} d (began {s = s} z y) = says_within d (department_at f s) _ _ _ (λ q. (refl, refl, next_own f (department_at f s) y.row ∙ q))
 case_says d (served {p = p} {a = a} {b = b} z y) = says_within d (row_department a) _ _ _ (λ q. (refl, refl, q))
 case_says d (heard {a = a} z y q) = says_within d (row_department a) _ _ _ (λ _. tt)

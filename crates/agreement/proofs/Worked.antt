@@ -15,7 +15,6 @@ use Rattle.suits.specs.Suits.{FourBytes}
 use Rattle.suits.specs.declared.Suit.{Suit}
 use Rattle.base.specs.Choice.{when◌then◌else◌}
 use Rattle.base.specs.Numbers.{sizes_right, quorum}
-use Rattle.base.specs.Refusals.{named}
 use Rattle.base.specs.Mask.{bit, set_bit, count_below}
 use Rattle.base.specs.Quorum.{count}
 use Rattle.base.proofs.Cases.{clash, by_cases, up_to}
@@ -88,8 +87,8 @@ as_expected (suc k) = when eqb (noted (said_at three example_i k)) (expected k) 
 record Computed : Type 0 where
   decided : said_at three example_i 13 ≡ said.Decided (suits.single 9)
   aborted : said_at three example_i 17 ≡ said.Aborted 0
-  malformed : said_at three example_i 19 ≡ said.Refused (named 7)
-  over : said_at three example_i 20 ≡ said.Refused (named 10)
+  malformed : said_at three example_i 19 ≡ said.Refused 7
+  over : said_at three example_i 20 ≡ said.Refused 10
   shown : shown_at three example_i 1 (length example_i) ≡ Some (suits.single 9)
   none : shown_at three example_i 0 (length example_i) ≡ None
   attempts : attempts_before (trace_of three example_i) Sails (length example_i) ≡ 2
@@ -112,15 +111,15 @@ record Computed : Type 0 where
   undecided : shown_at pair withdrawn 0 4 ≡ None
   withdrawn_decided : (said_at pair withdrawn 4 ≡ said.Decided (suits.single 0)) × (shown_at pair withdrawn 0 5 ≡ Some (suits.single 0))
   withdrawn_again : (said_at pair withdrawn 7 ≡ said.WriteIssued (suits.single 0)) × (said_at pair withdrawn 9 ≡ said.Decided (suits.single 0))
-  withdrawn_over : said_at pair withdrawn 10 ≡ said.Refused (named 10)
+  withdrawn_over : said_at pair withdrawn 10 ≡ said.Refused 10
   begun_none : attempts_before (trace_of five stops) Sails 2 ≡ 0
   put : said_at three came_back 3 ≡ said.Stopped 1
-  waited : said_at three came_back 4 ≡ said.Refused (named 13)
+  waited : said_at three came_back 4 ≡ said.Refused 13
   still_away : (box_at (floor_at three came_back 5) 1).away ≡ true
   brought : said_at three came_back 5 ≡ said.Back 1
   served_then : (said_at three came_back 6 ≡ said.Served 0) × ((box_at (floor_at three came_back 6) 1).away ≡ false)
   issued_then : said_at three came_back 7 ≡ said.WriteIssued (suits.single 7)
-  refused_then : said_at three came_back 8 ≡ said.Refused (named 23)
+  refused_then : said_at three came_back 8 ≡ said.Refused 23
   moved : (is_move (said_at five one_back 0) ≡ true) × (is_move (said_at five one_back 1) ≡ true) × (is_move (said_at five one_back 2) ≡ true) × (is_move (said_at five one_back 3) ≡ true)
   enough_back : count answering_back 5 ≡ 3
   none_begun : attempts_before (trace_of five one_back) Sails 4 ≡ 0
@@ -237,7 +236,7 @@ away_from = record {
   put = computed.put;
   later = omega arith;
   back = computed.brought;
-  between = λ k h u e. let q : k ≡ 4 = omega arith in let r : said.Refused (named 13) ≡ said.Back 1 = sym computed.waited ∙ ap (said_at three came_back) (sym q) ∙ e in let z : ◌≡◌ {A = ℕ} 0 1 = cc in omega arith;
+  between = λ k h u e. let q : k ≡ 4 = omega arith in let r : said.Refused 13 ≡ said.Back 1 = sym computed.waited ∙ ap (said_at three came_back) (sym q) ∙ e in let z : ◌≡◌ {A = ℕ} 0 1 = cc in omega arith;
 }
 
 -- every step of `one_back` moves a box, and nothing else was said

@@ -1,6 +1,5 @@
 -- What a reader of the floor may rely on besides. The proof is `consequences` in proofs/Consequences.
 use Rattle.std.specs.Prelude.{ℕ, ◌<◌, ◌≡◌, ◌⊎◌, false, List, length, Some}
-use Rattle.base.specs.Refusals.{named}
 use Rattle.suits.specs.declared.Suit.{Suit}
 use Rattle.commands.specs.Outcomes.{is_refused}
 use Rattle.commands.specs.declared.Command.TheVariants.{Begin}
@@ -23,7 +22,7 @@ pub record Consequences (f : Floor) (l : List (List ℕ)) : Type 0 where
   pub stays : (s : ℕ) (v : Suit) (k i : ℕ) → DecidesAt (trace_of f l) s v k → k < i → shown_at f l s i ≡ Some v
   -- "each station keeps its own, and begins nothing after deciding", whatever it decided: such a begin is refused with 9 or 10
   pub over : (s : ℕ) (v : Suit) (k i round : ℕ) (u : Suit) → DecidesAt (trace_of f l) s v k → k < i → command_at l i ≡ Begin s round u
-      → (said_at f l i ≡ said.Refused (named 9)) ⊎ (said_at f l i ≡ said.Refused (named 10))
+      → (said_at f l i ≡ said.Refused 9) ⊎ (said_at f l i ≡ said.Refused 10)
   -- a box answers in the words of demand 3 exactly where the floor shows that it is not away
   pub not_away : (b i : ℕ) → Answering (trace_of f l) i b → (box_at (floor_at f l i) b).away ≡ false
   pub answers : (b i : ℕ) → (box_at (floor_at f l i) b).away ≡ false → Answering (trace_of f l) i b

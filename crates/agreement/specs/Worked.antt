@@ -1,7 +1,6 @@
 -- Document 01's examples I and J, a read that is outranked, a row that is free, two departments, a withdrawal, and boxes that come back, in
 -- the words of demand 3, so that the claim is not about nothing. The proof is `worked` in proofs/Worked.
 use Rattle.std.specs.Prelude.{ℕ, zero, suc, ◌<◌, ◌≡◌, List, [], ◌∷◌, length, None, Some}
-use Rattle.base.specs.Refusals.{named}
 use Rattle.suits.specs.Suits as suits
 use Rattle.suits.specs.Suits.{FourBytes}
 use Rattle.suits.specs.declared.Suit.{Suit}
@@ -123,12 +122,12 @@ pub record Worked : Type 0 where
   pub undecided : shown_at pair withdrawn 0 4 ≡ None
   pub withdrawn_decided : (said_at pair withdrawn 4 ≡ said.Decided (suits.single 0)) × (shown_at pair withdrawn 0 5 ≡ Some (suits.single 0))
   pub withdrawn_again : (said_at pair withdrawn 7 ≡ said.WriteIssued (suits.single 0)) × (said_at pair withdrawn 9 ≡ said.Decided (suits.single 0))
-  pub withdrawn_over : said_at pair withdrawn 10 ≡ said.Refused (named 10)
+  pub withdrawn_over : said_at pair withdrawn 10 ≡ said.Refused 10
   -- wish 8: while it is away box 1 does not serve the read, and does not answer; back it does both
-  pub away : (said_at three came_back 4 ≡ said.Refused (named 13)) × (¬ Answering (trace_of three came_back) 5 1)
+  pub away : (said_at three came_back 4 ≡ said.Refused 13) × (¬ Answering (trace_of three came_back) 5 1)
   pub back : (said_at three came_back 5 ≡ said.Back 1) × (said_at three came_back 6 ≡ said.Served 0) × Answering (trace_of three came_back) 6 1
   pub went_on : said_at three came_back 7 ≡ said.WriteIssued (suits.single 7)
-  pub not_away : said_at three came_back 8 ≡ said.Refused (named 23)
+  pub not_away : said_at three came_back 8 ≡ said.Refused 23
   pub away_from : AwayFrom (trace_of three came_back) 1 3 5
   -- with 3 of 5 boxes away and one of them back, whatever revision station 0 offers
   pub alone_back : (v : Suit) → FourBytes v → DrivenAlone five one_back 0 v 13 (solo_of (floor_left five one_back) 0 v)

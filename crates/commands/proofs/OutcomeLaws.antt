@@ -1,8 +1,14 @@
--- What is no refusal has the number 0, and what is refused the number of its refusal.
-use mathlib.Core.Path.{◌≡◌, refl}
-use mathlib.Core.Bool.{false}
+-- What is no refusal has the number 0, and what is refused by a number that a refusal has the number of that refusal.
+use Prim.Native.Nat.{ℕ}
+use mathlib.Core.Path.{◌≡◌, refl, ap}
+use mathlib.Core.Bool.{true, false}
+use lib.Dec.{eqb}
+use Rattle.base.specs.Choice.{when◌then◌else◌}
 use Rattle.base.proofs.Cases.{clash}
-use Rattle.base.specs.Refusals.{number_if}
+use Rattle.base.proofs.Choices.{on_false}
+use Rattle.base.proofs.RefusalLaws.{number_some}
+use Rattle.base.specs.Refusals.{number, named, number_if}
+use Rattle.base.specs.declared.Refusal.{Refusal}
 use Rattle.commands.specs.Outcomes.{number_of, refusal_said, is_refused}
 use Rattle.commands.specs.declared.Outcome.{Outcome}
 use Rattle.commands.specs.declared.Outcome.TheVariants.{Begun, Served, Received, Aborted, WriteIssued, Decided, Stopped, Gone, Back, Refused}
@@ -17,16 +23,20 @@ accepted_number (Decided v) e = refl
 accepted_number (Stopped b) e = refl
 accepted_number (Gone s) e = refl
 accepted_number (Back b) e = refl
-accepted_number (Refused r) e = clash refl e
+accepted_number (Refused k) e = clash refl e
 
-pub number_said : (o : Outcome) → number_if (refusal_said o) ≡ number_of o
-number_said (Begun a) = refl
-number_said (Served a) = refl
-number_said (Received a) = refl
-number_said (Aborted a) = refl
-number_said (WriteIssued v) = refl
-number_said (Decided v) = refl
-number_said (Stopped b) = refl
-number_said (Gone s) = refl
-number_said (Back b) = refl
-number_said (Refused r) = refl
+pub number_said : (o : Outcome) → (is_refused o ≡ true → number (named (number_of o)) ≡ number_of o) → number_if (refusal_said o) ≡ number_of o
+number_said (Begun a) h = refl
+number_said (Served a) h = refl
+number_said (Received a) h = refl
+number_said (Aborted a) h = refl
+number_said (WriteIssued v) h = refl
+number_said (Decided v) h = refl
+number_said (Stopped b) h = refl
+number_said (Gone s) h = refl
+number_said (Back b) h = refl
+number_said (Refused k) h = h refl
+
+-- a choice by a refusal's number k, 0 where nothing is refused
+pub on_number : {A : Type 0} (f : ℕ → A) (r : Refusal) {k : ℕ} (x : A) → number r ≡ k → f (number r) ≡ when eqb k 0 then x else f k
+on_number f r x e = on_false x (rw (← e) (number_some r)) (ap f e)

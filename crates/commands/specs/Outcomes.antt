@@ -1,6 +1,6 @@
 -- Document 01, "Steps": "Each accepted step says one thing that came of it"; "A refusal gives its number."
 use Rattle.std.specs.Prelude.{ℕ, Bool, true, false, List, [], ◌∷◌, get_or, Option, Some, None}
-use Rattle.base.specs.Refusals.{number}
+use Rattle.base.specs.Refusals.{named}
 use Rattle.base.specs.declared.Refusal.{Refusal}
 use Rattle.suits.specs.Suits.{revisions_of}
 use Rattle.commands.specs.declared.Outcome.{Outcome}
@@ -17,9 +17,9 @@ number_of (Decided v) = 0
 number_of (Stopped b) = 0
 number_of (Gone s) = 0
 number_of (Back b) = 0
-number_of (Refused r) = number r
+number_of (Refused k) = k
 
--- the refusal itself, where there is one
+-- the refusal by its name, where the step was refused
 abbrev pub refusal_said : (o : Outcome) → Option Refusal
 refusal_said (Begun a) = None
 refusal_said (Served a) = None
@@ -30,7 +30,7 @@ refusal_said (Decided v) = None
 refusal_said (Stopped b) = None
 refusal_said (Gone s) = None
 refusal_said (Back b) = None
-refusal_said (Refused r) = Some r
+refusal_said (Refused k) = Some (named k)
 
 -- Document 01's values for each case: "begun, served, received or aborted with the attempt; write issued or decided with the
 -- revision .. stopped with the box; gone with the station". Wish 8 of document 02: "Kind 8 says stopped and kind 9 back, with the box." A
@@ -45,7 +45,7 @@ values_of (Decided v) = revisions_of v
 values_of (Stopped b) = b ∷ []
 values_of (Gone s) = s ∷ []
 values_of (Back b) = b ∷ []
-values_of (Refused r) = []
+values_of (Refused k) = []
 
 -- the first of them, 0 where there is none
 abbrev pub value_of : (o : Outcome) → ℕ
@@ -61,7 +61,7 @@ is_refused (Decided v) = false
 is_refused (Stopped b) = false
 is_refused (Gone s) = false
 is_refused (Back b) = false
-is_refused (Refused r) = true
+is_refused (Refused k) = true
 
 -- an attempt began
 abbrev pub is_begun : (o : Outcome) → Bool
@@ -74,7 +74,7 @@ is_begun (Decided v) = false
 is_begun (Stopped b) = false
 is_begun (Gone s) = false
 is_begun (Back b) = false
-is_begun (Refused r) = false
+is_begun (Refused k) = false
 
 -- an attempt ended: its station decided, or it aborted
 abbrev pub is_end : (o : Outcome) → Bool
@@ -87,4 +87,4 @@ is_end (Decided v) = true
 is_end (Stopped b) = false
 is_end (Gone s) = false
 is_end (Back b) = false
-is_end (Refused r) = false
+is_end (Refused k) = false

@@ -5,7 +5,6 @@ ghost use Rattle.std.specs.Prelude.{◌≡◌, drop, ◌≤◌};
 ghost use Rattle.requests.specs.Requests.{of_phase};
 ghost use Rattle.commands.specs.Commands.{all_zero, spared, command_of, encode_of};
 
-use base::Refusal;
 use requests::Phase;
 use suits::Suit;
 
@@ -24,8 +23,8 @@ pub enum Command {
     Malformed,
 }
 
-// What came of a step; `Refused` has why it was turned back. A case and no Result: a trace is a list of what steps said, the refused ones
-// included, and number and value are of every case (`number_of`, `value_of`).
+// What came of a step; `Refused` has the number under "Turned back". A case and no Result: a trace is a list of what steps said, the
+// refused ones included, and number and value are of every case (`number_of`, `value_of`).
 #[derive(Clone, Copy)]
 pub enum Outcome {
     Begun(u8),
@@ -37,7 +36,7 @@ pub enum Outcome {
     Stopped(u8),
     Gone(u8),
     Back(u8),
-    Refused(Refusal),
+    Refused(u8),
 }
 
 // All bytes are zero.

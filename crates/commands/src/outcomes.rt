@@ -1,9 +1,47 @@
 // Document 01's number and value of an outcome, and tests of it.
 ghost use Rattle.std.specs.Prelude.{◌≡◌};
+ghost use Rattle.base.specs.Refusals.{named};
 ghost use Rattle.commands.specs.Outcomes.{number_of, refusal_said, value_of, is_refused, is_end};
 
 use crate::Outcome;
 use base::Refusal;
+
+// All refusals by their numbers, from 1 on.
+const REFUSALS: [Refusal; 23] = [
+    Refusal::FileSize,
+    Refusal::Version,
+    Refusal::Sizes,
+    Refusal::Label,
+    Refusal::Records,
+    Refusal::Unsound,
+    Refusal::Kind,
+    Refusal::Unknown,
+    Refusal::Gone,
+    Refusal::Busy,
+    Refusal::Round,
+    Refusal::NoRow,
+    Refusal::Away,
+    Refusal::NotDue,
+    Refusal::TooFew,
+    Refusal::Length,
+    Refusal::RankZero,
+    Refusal::Room,
+    Refusal::FrameLength,
+    Refusal::FrameVersion,
+    Refusal::Message,
+    Refusal::Departments,
+    Refusal::NotAway,
+];
+
+// The refusal with a number. Which one it is of a number that none has says nothing.
+fn named(number: u8) -> Refusal
+    ensures { result ≡ named number }
+{
+    match REFUSALS.get(usize::from(number.saturating_sub(1))) {
+        Some(&r) => r,
+        None => Refusal::Unsound,
+    }
+}
 
 impl Outcome {
     // Document 01's number of an outcome: that of the refusal, 0 where the step was accepted.
@@ -11,17 +49,17 @@ impl Outcome {
         ensures { result ≡ number_of self }
     {
         match self {
-            Outcome::Refused(r) => r.number(),
+            Outcome::Refused(k) => k,
             _ => 0,
         }
     }
 
-    // The refusal, where there is one.
+    // The refusal by its name, where the step was refused; which one it is of a number that none has says nothing.
     pub fn refusal(self) -> Option<Refusal>
         ensures { result ≡ refusal_said self }
     {
         match self {
-            Outcome::Refused(r) => Some(r),
+            Outcome::Refused(k) => Some(named(k)),
             _ => None,
         }
     }

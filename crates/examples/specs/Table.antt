@@ -2,7 +2,6 @@
 use Rattle.std.specs.Prelude.{ℕ, true, false, List, [], ◌∷◌, Some, None}
 use Rattle.suits.specs.Suits.{single}
 use Rattle.base.specs.Numbers.{quorum, rank_of}
-use Rattle.base.specs.Refusals.{named}
 use Rattle.register.specs.Register.{rmw_read, rmw_write}
 use Rattle.register.specs.declared.Register.{Register}
 use Rattle.requests.specs.declared.Phase.TheVariants.{Read}
@@ -69,7 +68,7 @@ table =
     -- "J: solo on a new floor of 5: 13 steps; with 2 stopped, 13; with 3 stopped, refusal 15."
     ∷ row J (solo_after 5 []) (drove 13 (Decided (single 7)))
     ∷ row J (solo_after 5 (Stop 0 ∷ Stop 3 ∷ [])) (drove 13 (Decided (single 7)))
-    ∷ row J (solo_after 5 (Stop 0 ∷ Stop 3 ∷ Stop 4 ∷ [])) (drove 0 (Refused (named 15)))
+    ∷ row J (solo_after 5 (Stop 0 ∷ Stop 3 ∷ Stop 4 ∷ [])) (drove 0 (Refused 15))
     -- "K: the drill file above."
     ∷ row K (printed (printed_of file_k)) (printed luff)
     ∷ []

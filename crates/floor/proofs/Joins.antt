@@ -9,7 +9,6 @@ use lib.ListN.{set}
 use lib.Seq.{set-get_or}
 use borrow.Author.Tests.{leb-false, eqb-true, eqb-false}
 use Rattle.base.specs.Choice.{when◌then◌else◌}
-use Rattle.base.specs.Refusals.{named}
 use Rattle.base.proofs.Cases.{clash}
 use Rattle.base.proofs.Choices.{by_test}
 use Rattle.register.specs.Register.{box0, box_with}
@@ -193,9 +192,9 @@ module _ (f : Floor) (z : Sound f) where
     pub said : y.outcome ≡ (apply_of f c).outcome
     pub left : is_refused y.outcome ≡ false → put f c y.parts ≡ (apply_of f c).floor
 
-  refused_join : (c : Command) → ¬ (refusal_on f c ≡ 0) → Joined c (turned_back (look f c) (named (refusal_in (look f c) c)))
+  refused_join : (c : Command) → ¬ (refusal_on f c ≡ 0) → Joined c (turned_back (look f c) (refusal_in (look f c) c))
   refused_join c e = record {
-    said = ap (λ (k : ℕ). Refused (named k)) (refusal_join c) ∙ sym (ap (λ (x : Stepped). x.outcome) (apply_refused f c z e));
+    said = ap Refused (refusal_join c) ∙ sym (ap (λ (x : Stepped). x.outcome) (apply_refused f c z e));
     left = λ r. clash refl r;
   }
 

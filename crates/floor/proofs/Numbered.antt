@@ -3,8 +3,6 @@ use Prim.Native.Nat.{ℕ}
 use native.Mathlib.Decide.{ℕ_discrete}
 use mathlib.Core.Path.{◌≡◌, refl, sym, ap, subst, ◌∙◌}
 use mathlib.Core.Bool.{Bool, true, false}
-use mathlib.Core.Logic.{inl, inr}
-use Rattle.base.specs.Refusals.{number, named}
 use Rattle.base.proofs.Choices.{on_true, on_false}
 use Rattle.base.proofs.Cases.{clash}
 use Rattle.floor.specs.Sound.{sound_of}
@@ -18,7 +16,6 @@ use Rattle.floor.specs.declared.Floor.{Floor}
 use Rattle.floor.specs.declared.Stepped.{Stepped}
 use Rattle.commands.specs.declared.Command.{Command}
 use Rattle.floor.proofs.SoundLaws.{sound_means}
-use Rattle.floor.proofs.RefusalLaws.{Numbered, named_back, refusal_numbered}
 use Rattle.floor.proofs.StepCases.{apply_refusal}
 use Rattle.floor.proofs.StepLaws.{apply_unsound, apply_refused, apply_accepted}
 use Rattle.floor.proofs.StepLaws.{effect_said}
@@ -36,15 +33,11 @@ module _ (f : Floor) (c : Command) where
   unfolding refusal_of
   refusal_unsound e = sym (on_false _ e refl)
 
-  back : ¬ (refusal_on f c ≡ 0) → Numbered (refusal_on f c) → number (named (refusal_on f c)) ≡ refusal_on f c
-  back z (inl e) = absurd (z e)
-  back z (inr h) = named_back (refusal_on f c) h
-
   -- on a floor that is sound or not
   by_soundness : (t : Bool) → sound_of f ≡ t → saying (apply_of f c) ≡ refusal_of f c
   by_soundness true e = elim (ℕ_discrete (refusal_on f c) 0) [
     | yes z ↦ ap saying (apply_accepted f c (sound_means f e) z) ∙ accepted_number (effect_on f c).outcome (effect_said f c z) ∙ sym (refusal_sound e ∙ z)
-    | no z ↦ ap saying (apply_refused f c (sound_means f e) z) ∙ back z (refusal_numbered f c) ∙ sym (refusal_sound e)
+    | no z ↦ ap saying (apply_refused f c (sound_means f e) z) ∙ sym (refusal_sound e)
   ]
   by_soundness false e = ap saying (apply_unsound f c e) ∙ sym (refusal_unsound e)
 
@@ -55,7 +48,7 @@ module _ (f : Floor) (c : Command) where
 pub refused_number : (f : Floor) (c : Command) → is_refused (apply_of f c).outcome ≡ true → RefusalOfStep (number_of (apply_of f c).outcome)
 refused_number f c e =
     let r = apply_refusal f c e in
-    let n : number_of (apply_of f c).outcome ≡ r.number = ap (λ (s : Stepped). number_of s.outcome) r.is ∙ named_back r.number r.cause.number in
+    let n : number_of (apply_of f c).outcome ≡ r.number = ap (λ (s : Stepped). number_of s.outcome) r.is in
     subst RefusalOfStep (sym n) r.cause.number
 
 -- an accepted step on a sound floor has no refusal

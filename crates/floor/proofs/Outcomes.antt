@@ -1,7 +1,7 @@
 -- What each thing said means: of which command it came, which tests that passed, and to which floor it led; and what is read back there. The
 -- arrays have their lengths, so that what is stored can be read back.
 use Prim.Native.Nat.{ℕ}
-use mathlib.Core.Path.{◌≡◌, refl, sym, ap, subst, ◌∙◌}
+use mathlib.Core.Path.{◌≡◌, refl, ap, subst, ◌∙◌}
 use mathlib.Core.Bool.{true, false}
 use mathlib.Core.List.{List}
 use Rattle.suits.specs.declared.Suit.{Suit}
@@ -18,17 +18,15 @@ use Rattle.floor.specs.Floors.{box_at, station_at, row_at, owner_at, department_
 use Rattle.floor.specs.Effects.{row_taken, beginner, share_after, served_by, heard_row, decider, with_away}
 use Rattle.floor.specs.Step.{apply_of, step_of}
 use Rattle.floor.specs.Soundness.{Lengths}
-use Rattle.floor.specs.Tests.{TurnedBack}
 use Rattle.floor.specs.Meanings.{BegunBy, ServedBy, IssuedBy, DecidedBy, AbortedBy, StoppedBy, GoneBy, BackBy, Meaning}
 use Rattle.floor.specs.declared.Floor.{Floor}
 use Rattle.floor.specs.declared.Stepped.{Stepped}
 use Rattle.floor.proofs.UseLaws.{share_own}
-use Rattle.floor.proofs.RefusalLaws.{named_back}
 use Rattle.floor.proofs.StepCases.{StepCase, turned, began, served, heard, issued, decided, aborted, stopped, left, returned, apply_case}
 use Rattle.floor.proofs.StoredLaws.{row_stored, station_stored, owner_stored, box_stored, used_stored}
 
 meaning : {f : Floor} {c : Command} {s : Stepped} → StepCase f c s → Meaning f c s.floor s.outcome
-meaning {f} {c} (turned k t) = record { cause = subst (TurnedBack f c) (sym (named_back k t.number)) t; floor = refl }
+meaning (turned k t) = record { cause = t; floor = refl }
 meaning (began {s = s} {round = r} {v = v} z d) = record { station = s; round = r; offer = v; command = refl; sound = z; may = d; next = refl; floor = refl }
 meaning (served {p = p} {b = b} z d) = record { phase = p; box = b; command = refl; sound = z; may = d; floor = refl }
 meaning (heard {p = p} {b = b} z d q) = record { phase = p; box = b; command = refl; sound = z; may = d; floor = refl }

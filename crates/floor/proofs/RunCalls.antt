@@ -1,9 +1,9 @@
--- The calls over the loop: what turns a list of bytes back; a run of its records.
+-- The calls over the loop: what turns a list of bytes back; a run of its records; a single step is a run of one.
 use Prim.Native.Nat.{ℕ, ◌-◌, ◌/◌, ◌%◌, ◌<◌, ◌≤◌}
 use native.Mathlib.Omega.{arith}
 use mathlib.Core.Path.{◌≡◌, refl, sym, ap, ◌∙◌}
 use mathlib.Core.Bool.{Bool, true, false}
-use mathlib.Core.List.{List}
+use mathlib.Core.List.{List, []}
 use Rattle.std.specs.Prelude.{Option, Some, None, Result, Ok, Err}
 use lib.ListN.{length, take, drop}
 use Rattle.base.specs.Records.{record_at, records_from, records_in}
@@ -12,15 +12,18 @@ use Rattle.base.specs.declared.Refusal.{Refusal as Refused}
 use Rattle.base.proofs.RefusalLaws.{on_refused, on_accepted}
 use Rattle.commands.specs.Commands.{command_of}
 use Rattle.commands.specs.Outcomes.{refusal_said}
+use Rattle.commands.proofs.OutcomeLaws.{on_number}
 use Rattle.commands.specs.declared.Command.{Command}
 use Rattle.commands.specs.declared.Outcome.TheVariants as said
-use Rattle.runs.specs.Runs.{refusal_by}
+use Rattle.runs.specs.Runs.{refusal_by, ran_from}
 use Rattle.runs.specs.declared.Until.TheVariants.{Refusal, End}
 use Rattle.runs.proofs.HandedLaws.{refused_6, refused_5, refused_0, refused_none, records_split}
 use Rattle.floor.specs.Sound.{sound_of}
+use Rattle.floor.specs.Step.{apply_of}
 use Rattle.floor.specs.Soundness.{Sound}
 use Rattle.floor.specs.Runs.{run_from, run_of, played_on, run_refusal, played_in, driven_in}
 use Rattle.floor.specs.declared.Floor.{Floor}
+use Rattle.floor.specs.declared.Stepped.{Stepped}
 use Rattle.floor.specs.declared.Ran.{Ran}
 use Rattle.floor.specs.declared.Played.{Played}
 use Rattle.floor.proofs.SoundLaws.{sound_means}
@@ -68,9 +71,9 @@ module _ (f : Floor) (l : List ℕ) where
     unfolding played_in
     played_whole a e y h = on_accepted _ (none_number a e) h
 
-    pub driven_refused : (first : List ℕ) (r : Refused) → x ≡ Err r → record { floor = f; accepted = 0; outcome = said.Refused r } ≡ driven_in f first l
+    pub driven_refused : (first : List ℕ) (r : Refused) → x ≡ Err r → record { floor = f; accepted = 0; outcome = said.Refused (number r) } ≡ driven_in f first l
     unfolding driven_in
-    driven_refused first r e = on_refused (λ (r : Refused). record { floor = f; accepted = 0; outcome = said.Refused r }) r (run_of End f first (records_in l)) (refused_number r e)
+    driven_refused first r e = on_number (λ (k : ℕ). record { floor = f; accepted = 0; outcome = said.Refused k }) r (run_of End f first (records_in l)) (refused_number r e)
 
     pub driven_whole : (first : List ℕ) (a : A) → x ≡ Ok a → (y : Ran) → y ≡ run_of End f first (records_in l) → y ≡ driven_in f first l
     unfolding driven_in
@@ -91,3 +94,11 @@ module _ (l : List ℕ) (h : 8 ≤ length l) where
       → record { floor = x.floor; accepted = x.accepted; refusal = r } ≡ played_on f (records_in l)
   unfolding played_on
   played_some f c x r ec ex er = rw (er, records_split l h, ← ec) (ap of_ran ex)
+
+-- a run of one command is its step
+abbrev pub of_step : Ran → Stepped
+of_step x = record { floor = x.floor; outcome = x.outcome }
+
+pub run_one : (f : Floor) (c : Command) → of_step (run_from End 0 f c (records_in [])) ≡ apply_of f c
+unfolding ran_from records_from
+run_one f c = refl

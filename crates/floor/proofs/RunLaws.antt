@@ -9,7 +9,6 @@ use borrow.Author.Tests.{leb-false, le-leb}
 use native.Mathlib.Omega.{arith}
 use Rattle.base.specs.Choice.{when◌then◌else◌}
 use Rattle.base.specs.Records.{record_at, records_from}
-use Rattle.base.specs.Refusals.{named}
 use Rattle.base.proofs.Choices.{chosen, both_false}
 use Rattle.commands.specs.Commands.{command_of}
 use Rattle.commands.specs.Outcomes.{is_refused, is_end}
@@ -67,7 +66,7 @@ pub turn_of : (f : Floor) (c : Command) {near next i b j first : ℕ} {d : Depar
       register = register;
       away = (box_at f b).away;
       station = station_at f j;
-    } in y ≡ (when leb f.n 9 then change_in x c else turned_back x (named 6))
+    } in y ≡ (when leb f.n 9 then change_in x c else turned_back x 6)
     → Turn f c d next i b j y
 turn_of f c z en ed es ex ei eb ej e₁ e₂ ey = record {
   sound = z;

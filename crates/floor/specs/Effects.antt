@@ -3,7 +3,6 @@ use Rattle.std.specs.Prelude.{ℕ, max, Bool, true, false, Some}
 use Rattle.suits.specs.declared.Suit.{Suit}
 use Rattle.base.specs.Choice.{when◌then◌else◌}
 use Rattle.base.specs.Numbers.{rank_of}
-use Rattle.base.specs.Refusals.{named}
 use Rattle.register.specs.declared.Register.{Register}
 use Rattle.register.specs.declared.StorageBox.{StorageBox}
 use Rattle.requests.specs.Requests.{of_phase, verdict_of}
@@ -138,4 +137,4 @@ effect_on f (Deliver p a b) = delivered_on f p a b
 effect_on f (Stop b) = stepped (after_stop f b) (said.Stopped b)
 effect_on f (Leave s) = stepped (after_leave f s) (said.Gone s)
 effect_on f (Return b) = stepped (after_return f b) (said.Back b)
-effect_on f Malformed = stepped f (said.Refused (named 7))
+effect_on f Malformed = stepped f (said.Refused 7)

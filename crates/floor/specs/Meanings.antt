@@ -1,6 +1,5 @@
 -- What each thing said means.
 use Rattle.std.specs.Prelude.{ℕ, ◌≡◌, true, false}
-use Rattle.base.specs.Refusals.{number}
 use Rattle.suits.specs.declared.Suit.{Suit}
 use Rattle.requests.specs.Requests.{at_quorum, all_yes}
 use Rattle.requests.specs.declared.Phase.{Phase}
@@ -118,4 +117,4 @@ module _ (f : Floor) (c : Command) (g : Floor) where
   Meaning (Stopped b) = StoppedBy b
   Meaning (Gone s) = GoneBy s
   Meaning (Back b) = BackBy b
-  Meaning (Refused r) = RefusedBy (number r)
+  Meaning (Refused k) = RefusedBy k

@@ -77,4 +77,4 @@ played_in f bytes =
 unfoldable pub driven_in : (f : Floor) (r bytes : List ℕ) → Ran
 driven_in f r bytes =
     when eqb (run_refusal f bytes) 0 then run_of End f r (records_in bytes)
-    else record { floor = f; accepted = 0; outcome = Refused (named (run_refusal f bytes)) }
+    else record { floor = f; accepted = 0; outcome = Refused (run_refusal f bytes) }

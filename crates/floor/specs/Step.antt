@@ -1,7 +1,6 @@
 -- Document 01, "Steps" and "Turned back": the single step.
 use Rattle.std.specs.Prelude.{ℕ, List, eqb}
 use Rattle.base.specs.Choice.{when◌then◌else◌}
-use Rattle.base.specs.Refusals.{named}
 use Rattle.commands.specs.Commands.{command_of}
 use Rattle.commands.specs.Outcomes.{value_of}
 use Rattle.commands.specs.declared.Command.{Command}
@@ -14,7 +13,7 @@ use Rattle.floor.specs.declared.Stepped.{Stepped}
 
 -- "A refusal gives its number. Floor, record and reply stay unchanged"
 abbrev pub refused : (f : Floor) (k : ℕ) → Stepped
-refused f k = record { floor = f; outcome = Refused (named k) }
+refused f k = record { floor = f; outcome = Refused k }
 
 -- a step on a sound floor
 unfoldable pub play_of : (f : Floor) (c : Command) → Stepped

@@ -59,7 +59,12 @@ impl fmt::Display for Said {
             Outcome::Stopped(b) => write!(f, "stopped {b}"),
             Outcome::Gone(s) => write!(f, "gone {s}"),
             Outcome::Back(b) => write!(f, "back {b}"),
-            Outcome::Refused(refusal) => write!(f, "{}", Refused(Some(refusal))),
+            // A number that no refusal has is said as it stands.
+            Outcome::Refused(k) if base::number_if(self.0.refusal()) == k => {
+                write!(f, "{}", Refused(self.0.refusal()))
+            }
+            Outcome::Refused(0) => write!(f, "{}", Refused(None)),
+            Outcome::Refused(k) => write!(f, "refusal {k}"),
         }
     }
 }

@@ -4,8 +4,6 @@
 use Rattle.std.specs.Prelude.{ℕ, ◌+◌, max, Bool, true, false, eqb, leb, Some}
 use Rattle.base.specs.Choice.{when◌then◌else◌}
 use Rattle.base.specs.Numbers.{rank_of}
-use Rattle.base.specs.Refusals.{named}
-use Rattle.base.specs.declared.Refusal.{Refusal}
 use Rattle.suits.specs.declared.Suit.{Suit}
 use Rattle.register.specs.declared.Register.{Register}
 use Rattle.requests.specs.Requests.{of_phase, standing_of, is_waiting, is_on_the_way, verdict_of}
@@ -168,8 +166,8 @@ gone_station x s = record { parts = with_parts x x.row x.register x.away (with_s
 abbrev pub changed : (parts : Parts) (outcome : Outcome) → Changed
 changed parts outcome = record { parts = parts; outcome = outcome }
 
-abbrev pub turned_back : (x : Parts) (r : Refusal) → Changed
-turned_back x r = record { parts = x; outcome = said.Refused r }
+abbrev pub turned_back : (x : Parts) (k : ℕ) → Changed
+turned_back x k = record { parts = x; outcome = said.Refused k }
 
 abbrev pub effect_in : (x : Parts) (c : Command) → Changed
 effect_in x (Begin s round v) = begun x s round v
@@ -178,8 +176,8 @@ effect_in x (Deliver p a b) = delivered x p a b
 effect_in x (Stop b) = stopped_box x b
 effect_in x (Leave s) = gone_station x s
 effect_in x (Return b) = returned_box x b
-effect_in x Malformed = turned_back x (named 7)
+effect_in x Malformed = turned_back x 7
 
 -- the step, refused or accepted
 unfoldable pub change_in : (x : Parts) (c : Command) → Changed
-change_in x c = when eqb (refusal_in x c) 0 then effect_in x c else turned_back x (named (refusal_in x c))
+change_in x c = when eqb (refusal_in x c) 0 then effect_in x c else turned_back x (refusal_in x c)

@@ -1,7 +1,7 @@
 // The step on the parts that it looks at, by its kind.
 ghost use Rattle.std.specs.Prelude.{◌≡◌, ◌≤◌, leb};
 ghost use Rattle.base.specs.Choice.{when◌then◌else◌};
-ghost use Rattle.base.specs.Refusals.{named, number_in};
+ghost use Rattle.base.specs.Refusals.{number_in};
 ghost use Rattle.parts.specs.Parts.{refusal_in, changed, turned_back, effect_in, change_in};
 
 use crate::Parts;
@@ -36,20 +36,20 @@ fn effect(x: &mut Parts, c: Command) -> Outcome
         Command::Stop(b) => super::stop::stop(x, b),
         Command::Leave(s) => super::leave::leave(x, s),
         Command::Return(b) => super::returns::returned(x, b),
-        Command::Malformed => Outcome::Refused(Refusal::Kind),
+        Command::Malformed => Outcome::Refused(Refusal::Kind.number()),
     }
 }
 
 // The step on the parts, refused or accepted: one that is refused leaves them as they are. More than nine boxes are refusal 6, as on a floor.
-#[tactic(auto, using(base::proofs::Tests::picks, base::proofs::RefusalLaws::on_refused, base::proofs::RefusalLaws::on_accepted), unfolding(crate::specs::Parts::change_in))]
+#[tactic(auto, using(base::proofs::Tests::picks, commands::proofs::OutcomeLaws::on_number, base::proofs::RefusalLaws::on_accepted), unfolding(crate::specs::Parts::change_in))]
 pub fn change(x: &mut Parts, c: Command) -> Outcome
-    ensures { changed x.new result ≡ (when leb x.old.n 9 then change_in x.old c else turned_back x.old (named 6)) }
+    ensures { changed x.new result ≡ (when leb x.old.n 9 then change_in x.old c else turned_back x.old 6) }
 {
     if 9 < x.n {
-        return Outcome::Refused(Refusal::Unsound);
+        return Outcome::Refused(Refusal::Unsound.number());
     }
     match refusal(x, c) {
         Ok(()) => effect(x, c),
-        Err(r) => Outcome::Refused(r),
+        Err(r) => Outcome::Refused(r.number()),
     }
 }

@@ -1,7 +1,6 @@
 -- The refusals up front: what it means that none applies, and what comes of each case.
 use Prim.Native.Nat.{ℕ, ◌≤◌, ◌<◌}
 use native.Mathlib.Omega.{arith}
-use native.Mathlib.Decide.{ℕ_discrete}
 use mathlib.Core.Path.{◌≡◌, refl, sym, ap, ◌∙◌}
 use mathlib.Core.Bool.{Bool, true, false}
 use lib.ListN.{length}
@@ -10,7 +9,7 @@ use borrow.Author.Tests.{leb-true, leb-false, lt-leb, ltb-true, ltb-false, le-lt
 use Rattle.suits.specs.declared.Suit.{Suit}
 use Rattle.std.specs.Prelude.{Result, Ok, Err}
 use Rattle.base.specs.Numbers.{quorum}
-use Rattle.base.specs.Refusals.{number, named, number_in}
+use Rattle.base.specs.Refusals.{number, number_in}
 use Rattle.base.specs.declared.Refusal.{Refusal}
 use Rattle.base.proofs.RefusalLaws.{number_above}
 use Rattle.base.proofs.Choices.{on_true, on_false, by_test, passed, choice_ap}
@@ -83,17 +82,6 @@ solo_turned f s =
     choose : (t : Bool) {x y : ℕ} → (t ≡ true → TurnedBy f s x) → (t ≡ false → TurnedBy f s y) → TurnedBy f s (when t then x else y)
     choose t {x} {y} = by_test (TurnedBy f s) t x y
 
--- a refusal has its number by its name
-turned_named : {f : Floor} {s k : ℕ} → TurnedBy f s k → ¬ (k ≡ 0) → number (named k) ≡ k
-turned_named (unsound z) e = refl
-turned_named (no_station z h) e = refl
-turned_named (gone z m g) e = refl
-turned_named (busy z m b) e = refl
-turned_named (no_round z m i o) e = refl
-turned_named (no_row z m i k w) e = refl
-turned_named (few_boxes z m i k l q) e = refl
-turned_named (none z y) e = absurd (e refl)
-
 module _ (f : Floor) (s : ℕ) (v : Suit) where
   -- "a refused solo finish takes 0 steps", and leaves the floor
   pub solo_refused : ¬ (solo_refusal f s ≡ 0) → solo_of f s v ≡ turned_away f (solo_refusal f s)
@@ -106,11 +94,8 @@ module _ (f : Floor) (s : ℕ) (v : Suit) where
 
   -- its number and its value
   pub solo_number_lem : number_of (solo_of f s v).outcome ≡ solo_number f s v
-  unfolding solo_number
-  solo_number_lem = elim (ℕ_discrete (solo_refusal f s) 0) [
-    | yes e ↦ ap (λ (d : Solo). number_of d.outcome) (solo_driven e) ∙ on_true _ (eq-eqb _ _ e) refl
-    | no e ↦ ap (λ (d : Solo). number_of d.outcome) (solo_refused e) ∙ on_false _ (ne_eqb _ _ e) (turned_named (solo_turned f s) e)
-  ]
+  unfolding solo_of solo_number
+  solo_number_lem = choice_ap (λ (d : Solo). number_of d.outcome) _ _ _
 
   pub solo_value_lem : value_of (solo_of f s v).outcome ≡ solo_value f s v
   unfolding solo_of solo_value

@@ -3,7 +3,6 @@ use Rattle.std.specs.Prelude.{ℕ, length, eqb, leb, ltb}
 use Rattle.suits.specs.declared.Suit.{Suit}
 use Rattle.base.specs.Choice.{when◌then◌else◌}
 use Rattle.base.specs.Numbers.{quorum}
-use Rattle.base.specs.Refusals.{named}
 use Rattle.commands.specs.Outcomes.{number_of, value_of}
 use Rattle.commands.specs.declared.Outcome.TheVariants.{Refused}
 use Rattle.attempts.specs.Stations.{is_gone, is_busy}
@@ -36,7 +35,7 @@ solo_refusal f station = when sound_of f then front_refusal f station (round_of 
 
 -- "a refused solo finish takes 0 steps", and "Floor .. stay unchanged"
 abbrev pub turned_away : (f : Floor) (k : ℕ) → Solo
-turned_away f k = record { floor = f; steps = 0; outcome = Refused (named k) }
+turned_away f k = record { floor = f; steps = 0; outcome = Refused k }
 
 -- what a run of its steps came to: "A step turned back is not counted"
 abbrev pub of_run : (x : Ran) → Solo

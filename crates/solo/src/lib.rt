@@ -33,14 +33,13 @@ pub struct Solo {
     pub outcome: Outcome,
 }
 
-#[tactic(auto, using(base::proofs::RefusalLaws::named_number))]
 fn turned_away(f: Floor, r: Refusal) -> Solo
     ensures { result ≡ turned_away f (number r) }
 {
     Solo {
         floor: f,
         steps: 0,
-        outcome: Outcome::Refused(r),
+        outcome: Outcome::Refused(r.number()),
     }
 }
 

@@ -294,7 +294,7 @@ pub fn drive(mut f: Floor, first: [u8; 8], records: &[u8]) -> Ran
         return Ran {
             floor: f,
             accepted: 0,
-            outcome: Outcome::Refused(refusal),
+            outcome: Outcome::Refused(refusal.number()),
         };
     }
     let (accepted, outcome) = run_sound(
@@ -320,7 +320,7 @@ pub fn apply(mut f: Floor, c: Command) -> Stepped
     if !sound_here(&f) {
         return Stepped {
             floor: f,
-            outcome: Outcome::Refused(Refusal::Unsound),
+            outcome: Outcome::Refused(Refusal::Unsound.number()),
         };
     }
     let outcome = turn(&mut SoundFloor { floor: &mut f }, c);

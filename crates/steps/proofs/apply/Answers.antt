@@ -7,7 +7,7 @@ use Rattle.steps.proofs.apply.Goals as goal
 
 pub returns-then-not-sound_here-clause-number : goal.returns-then-not-sound_here-clause-number
 returns-then-not-sound_here-clause-number c =
-    ap (λ (s : Stepped). number_of s.outcome) (sym (apply_unsound c.args.f c.args.c (sym c.sound_here.ensures ∙ c.if-not-sound_here.true))) ∙ apply_number c.args.f c.args.c
+    c.number.ensures ∙ ap (λ (s : Stepped). number_of s.outcome) (sym (apply_unsound c.args.f c.args.c (sym c.sound_here.ensures ∙ c.if-not-sound_here.true))) ∙ apply_number c.args.f c.args.c
 
 pub returns-clause-number : goal.returns-clause-number
 returns-clause-number c = ap (λ (s : Stepped). number_of s.outcome) c.turn-outcome.ensures.stepped ∙ apply_number c.args.f c.args.c

@@ -1,4 +1,4 @@
-use mathlib.Core.Path.{◌≡◌, ap}
+use mathlib.Core.Path.{◌≡◌, ◌∙◌, ap}
 use borrow.Author.Rules.{rules}
 use Rattle.commands.specs.Outcomes.{number_of, value_of}
 use Rattle.floor.specs.Runs.{ran_with, driven_in}
@@ -7,10 +7,10 @@ use Rattle.floor.proofs.RunCalls.{run_asked, run_sound_here, driven_refused, dri
 use Rattle.steps.proofs.drive.Goals as goal
 
 pub returns-in-Err-clause-ran : goal.returns-in-Err-clause-ran
-returns-in-Err-clause-ran c = driven_refused _ _ _ (run_asked _ _ _ c.run_refusal.ensures c.sound_here.ensures) _ _ c.in-Err.is
+returns-in-Err-clause-ran c = rw c.number.ensures (driven_refused _ _ _ (run_asked _ _ _ c.run_refusal.ensures c.sound_here.ensures) _ _ c.in-Err.is)
 
 pub returns-in-Err-clause-number : goal.returns-in-Err-clause-number
-returns-in-Err-clause-number c = ap (λ (x : Ran). number_of x.outcome) (driven_refused _ _ _ (run_asked _ _ _ c.run_refusal.ensures c.sound_here.ensures) _ _ c.in-Err.is)
+returns-in-Err-clause-number c = c.number.ensures ∙ ap (λ (x : Ran). number_of x.outcome) (driven_refused _ _ _ (run_asked _ _ _ c.run_refusal.ensures c.sound_here.ensures) _ _ c.in-Err.is)
 
 pub returns-in-Err-clause-value : goal.returns-in-Err-clause-value
 returns-in-Err-clause-value c = ap (λ (x : Ran). value_of x.outcome) (driven_refused _ _ _ (run_asked _ _ _ c.run_refusal.ensures c.sound_here.ensures) _ _ c.in-Err.is)
