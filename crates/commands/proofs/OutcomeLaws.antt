@@ -1,12 +1,13 @@
--- What is no refusal has the number 0, and what is refused by a number that a refusal has the number of that refusal.
+-- What is no refusal has the number 0; what is refused with the number of a refusal says that refusal by name.
 use Prim.Native.Nat.{ℕ}
 use mathlib.Core.Path.{◌≡◌, refl, ap}
-use mathlib.Core.Bool.{true, false}
+use mathlib.Core.Bool.{Bool, true, false}
 use lib.Dec.{eqb}
+use Rattle.std.specs.Prelude.{Some}
 use Rattle.base.specs.Choice.{when◌then◌else◌}
 use Rattle.base.proofs.Cases.{clash}
-use Rattle.base.proofs.Choices.{on_false}
-use Rattle.base.proofs.RefusalLaws.{number_some}
+use Rattle.base.proofs.Choices.{on_false, by_test}
+use Rattle.base.proofs.RefusalLaws.{number_some, named_number}
 use Rattle.base.specs.Refusals.{number, named, number_if}
 use Rattle.base.specs.declared.Refusal.{Refusal}
 use Rattle.commands.specs.Outcomes.{number_of, refusal_said, is_refused}
@@ -36,6 +37,17 @@ number_said (Stopped b) h = refl
 number_said (Gone s) h = refl
 number_said (Back b) h = refl
 number_said (Refused k) h = h refl
+
+-- what is refused with the number of a refusal says that refusal
+pub refusal_named : (r : Refusal) → refusal_said (Refused (number r)) ≡ Some r
+refusal_named r = ap Some (named_number r)
+
+-- k is 0 or the number of a refusal; a chain of tests gives such a number where each test does
+abbrev pub Numbering : ℕ → Type 0
+Numbering k = ¬ (k ≡ 0) → number (named k) ≡ k
+
+pub numbering_or : (t : Bool) (k x : ℕ) → Numbering k → Numbering x → Numbering (when t then k else x)
+numbering_or t k x e h = by_test Numbering t k x (λ _. e) (λ _. h)
 
 -- a choice by a refusal's number k, 0 where nothing is refused
 pub on_number : {A : Type 0} (f : ℕ → A) (r : Refusal) {k : ℕ} (x : A) → number r ≡ k → f (number r) ≡ when eqb k 0 then x else f k

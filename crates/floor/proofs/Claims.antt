@@ -21,7 +21,7 @@ use Rattle.floor.proofs.AwayLaws.{row_held, waits_until, waits_on, away_moves}
 use Rattle.floor.proofs.StationLaws.{gone_stays, department_stays, last_from, decided_from}
 use Rattle.floor.proofs.RowLaws.{apply_share, row_same, step_counted}
 use Rattle.floor.proofs.FreeLaws.{free_means, free_holds, takes_row}
-use Rattle.floor.proofs.RunMeans.{run_ran, run_played}
+use Rattle.floor.proofs.RunMeans.{run_ran, run_played, step_named, run_named, driven_named}
 
 pub step_claims : StepClaims
 unfolding step_of
@@ -29,6 +29,7 @@ step_claims = record {
   refused_same = step_refused_same;
   refused_number = λ f r. refused_number f (command_of r);
   number = λ f r. apply_number f (command_of r);
+  named = step_named;
   new_sound = new_sound;
   new_lengths = new_lengths;
   sound = step_keeps;
@@ -60,6 +61,8 @@ pub run_claims : RunClaims
 run_claims = record {
   ran = run_ran;
   played = run_played;
+  named = run_named;
+  driven_named = driven_named;
   played_6 = λ f l z. sym (played_refused f l {A = ℕ} (Err Unsound) (run_6 f l z) Unsound refl);
   played_5 = λ f l z h. sym (played_refused f l {A = ℕ} (Err Records) (run_5 f l z h) Records refl);
   played_whole = λ f l z h. subst (PlayedOver f (records_in l)) (played_whole f l {A = ℕ} (Ok 0) (run_0 f l z h) 0 refl (played_on f (records_in l)) refl) (run_played f (records_in l));

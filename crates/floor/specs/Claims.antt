@@ -4,7 +4,8 @@ use Rattle.base.specs.Mask.{count_below}
 use Rattle.register.specs.declared.Department.{Department}
 use Rattle.requests.specs.declared.Phase.{Phase}
 use Rattle.commands.specs.Commands.{command_of}
-use Rattle.commands.specs.Outcomes.{number_of, is_refused}
+use Rattle.base.specs.Refusals.{number_if}
+use Rattle.commands.specs.Outcomes.{number_of, refusal_said, is_refused}
 use Rattle.commands.specs.declared.Command.TheVariants.{Serve, Deliver}
 use Rattle.commands.specs.declared.Outcome.TheVariants.{Begun, Served}
 use Rattle.attempts.specs.Stations.{is_gone, is_active}
@@ -41,6 +42,8 @@ pub record StepClaims : Type 0 where
   pub refused_number : (f : Floor) (r : List ℕ) → is_refused (step_of f r).outcome ≡ true
       → RefusalOfStep (number_of (step_of f r).outcome)
   pub number : (f : Floor) (r : List ℕ) → number_of (step_of f r).outcome ≡ refusal_of f (command_of r)
+  -- the refusal that it says by name has that number; none is said where the step is accepted
+  pub named : (f : Floor) (r : List ℕ) → number_if (refusal_said (step_of f r).outcome) ≡ number_of (step_of f r).outcome
   -- soundness, the sizes and the lengths of the arrays are kept; a new floor has them
   pub new_sound : (n m : ℕ) (departments : List ℕ) → Sound (new_floor_of n m departments).floor
   pub new_lengths : (n m : ℕ) (departments : List ℕ) → Lengths (new_floor_of n m departments).floor

@@ -2,12 +2,12 @@
 use Rattle.std.specs.Prelude.{ℕ, ◌%◌, ◌<◌, ◌≤◌, ◌≡◌, true, false, List, [], ◌∷◌, length, Some}
 use Rattle.base.specs.Records.{records_in}
 use Rattle.base.specs.Refusals.{number_if, named}
-use Rattle.commands.specs.Outcomes.{number_of, is_refused, is_end}
+use Rattle.commands.specs.Outcomes.{number_of, refusal_said, is_refused, is_end}
 use Rattle.runs.specs.RanOver.{RanOver}
 use Rattle.runs.specs.declared.Until.{Until}
 use Rattle.floor.specs.Sound.{sound_of}
 use Rattle.floor.specs.Step.{step_of}
-use Rattle.floor.specs.Runs.{floor_at, said_at, run_of, played_on, played_in}
+use Rattle.floor.specs.Runs.{floor_at, said_at, run_of, played_on, played_in, driven_in}
 use Rattle.floor.specs.declared.Floor.{Floor}
 use Rattle.floor.specs.declared.Ran.{Ran}
 use Rattle.floor.specs.declared.Played.{Played}
@@ -35,3 +35,6 @@ pub record RunClaims : Type 0 where
   pub played_6 : (f : Floor) (bytes : List ℕ) → sound_of f ≡ false → played_in f bytes ≡ record { floor = f; accepted = 0; refusal = Some (named 6) }
   pub played_5 : (f : Floor) (bytes : List ℕ) → sound_of f ≡ true → ¬ (length bytes % 8 ≡ 0) → played_in f bytes ≡ record { floor = f; accepted = 0; refusal = Some (named 5) }
   pub played_whole : (f : Floor) (bytes : List ℕ) → sound_of f ≡ true → length bytes % 8 ≡ 0 → PlayedOver f (records_in bytes) (played_in f bytes)
+  -- the refusal that a run says by name has the number of what it says, and so has that which turns the bytes back before the first step
+  pub named : (until : Until) (f : Floor) (r : List ℕ) (rs : List (List ℕ)) → number_if (refusal_said (run_of until f r rs).outcome) ≡ number_of (run_of until f r rs).outcome
+  pub driven_named : (f : Floor) (r bytes : List ℕ) → number_if (refusal_said (driven_in f r bytes).outcome) ≡ number_of (driven_in f r bytes).outcome

@@ -1,1 +1,2 @@
 pub mod EffectNeeds
+pub mod OutcomeLaws

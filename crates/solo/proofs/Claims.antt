@@ -1,7 +1,7 @@
 -- What is claimed of a solo finish, proved.
 use Rattle.solo.specs.Claims.{SoloClaims}
 use Rattle.solo.proofs.PlanLaws.{plan_begins}
-use Rattle.solo.proofs.FrontLaws.{solo_turned, solo_number_lem, solo_value_lem}
+use Rattle.solo.proofs.FrontLaws.{solo_turned, solo_number_lem, solo_value_lem, solo_named}
 use Rattle.solo.proofs.RoundLaws.{round_smallest}
 use Rattle.solo.proofs.CountLaws.{solo_counted}
 use Rattle.solo.proofs.LawfulLaws.{step_lawful, new_lawful}
@@ -14,6 +14,7 @@ solo_claims = record {
   refusal = solo_turned;
   number = solo_number_lem;
   value = solo_value_lem;
+  named = solo_named;
   counted = solo_counted;
   ends = solo_ends;
   decides = solo_decides;

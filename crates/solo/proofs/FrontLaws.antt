@@ -4,16 +4,17 @@ use native.Mathlib.Omega.{arith}
 use mathlib.Core.Path.{◌≡◌, refl, sym, ap, ◌∙◌}
 use mathlib.Core.Bool.{Bool, true, false}
 use lib.ListN.{length}
-use lib.Dec.{leb, ltb}
-use borrow.Author.Tests.{leb-true, leb-false, lt-leb, ltb-true, ltb-false, le-ltb, eq-eqb, ne_eqb}
+use lib.Dec.{eqb, leb, ltb}
+use borrow.Author.Tests.{leb-true, leb-false, lt-leb, ltb-true, ltb-false, le-ltb, eq-eqb, eqb-false, ne_eqb}
 use Rattle.suits.specs.declared.Suit.{Suit}
 use Rattle.std.specs.Prelude.{Result, Ok, Err}
 use Rattle.base.specs.Numbers.{quorum}
-use Rattle.base.specs.Refusals.{number, number_in}
+use Rattle.base.specs.Refusals.{number, number_if, number_in}
 use Rattle.base.specs.declared.Refusal.{Refusal}
 use Rattle.base.proofs.RefusalLaws.{number_above}
 use Rattle.base.proofs.Choices.{on_true, on_false, by_test, passed, choice_ap}
-use Rattle.commands.specs.Outcomes.{number_of, value_of}
+use Rattle.commands.specs.Outcomes.{number_of, value_of, refusal_said}
+use Rattle.commands.proofs.OutcomeLaws.{Numbering}
 use Rattle.base.specs.Choice.{when◌then◌else◌}
 use Rattle.attempts.specs.Stations.{is_gone, is_busy}
 use Rattle.attempts.specs.declared.State.{State}
@@ -23,6 +24,7 @@ use Rattle.floor.specs.Sound.{sound_of}
 use Rattle.floor.specs.Runs.{run_of}
 use Rattle.floor.specs.Effects.{row_taken}
 use Rattle.floor.specs.declared.Floor.{Floor}
+use Rattle.floor.proofs.RunMeans.{run_named}
 use Rattle.runs.specs.declared.Until.TheVariants.{End}
 use Rattle.solo.specs.Plan.{round_of, answering, begin_of, exchanges_of}
 use Rattle.solo.specs.Solo.{front_refusal, solo_refusal, turned_away, of_run, solo_of, solo_number, solo_value}
@@ -82,6 +84,17 @@ solo_turned f s =
     choose : (t : Bool) {x y : ℕ} → (t ≡ true → TurnedBy f s x) → (t ≡ false → TurnedBy f s y) → TurnedBy f s (when t then x else y)
     choose t {x} {y} = by_test (TurnedBy f s) t x y
 
+-- a refusal has its number by its name
+turned_named : {f : Floor} {s k : ℕ} → TurnedBy f s k → Numbering k
+turned_named (unsound z) e = refl
+turned_named (no_station z h) e = refl
+turned_named (gone z m g) e = refl
+turned_named (busy z m b) e = refl
+turned_named (no_round z m i o) e = refl
+turned_named (no_row z m i k w) e = refl
+turned_named (few_boxes z m i k l q) e = refl
+turned_named (none z y) e = absurd (e refl)
+
 module _ (f : Floor) (s : ℕ) (v : Suit) where
   -- "a refused solo finish takes 0 steps", and leaves the floor
   pub solo_refused : ¬ (solo_refusal f s ≡ 0) → solo_of f s v ≡ turned_away f (solo_refusal f s)
@@ -100,6 +113,14 @@ module _ (f : Floor) (s : ℕ) (v : Suit) where
   pub solo_value_lem : value_of (solo_of f s v).outcome ≡ solo_value f s v
   unfolding solo_of solo_value
   solo_value_lem = choice_ap (λ (d : Solo). value_of d.outcome) _ _ _
+
+  -- the refusal that it says by name has the number of what it says
+  pub solo_named : number_if (refusal_said (solo_of f s v).outcome) ≡ number_of (solo_of f s v).outcome
+  unfolding solo_of
+  solo_named =
+      by_test (λ (d : Solo). number_if (refusal_said d.outcome) ≡ number_of d.outcome) (eqb (solo_refusal f s) 0) _ _
+      (λ _. run_named End f (begin_of f s v) (exchanges_of f s))
+      (λ e. turned_named (solo_turned f s) (eqb-false _ _ e))
 
 module _ (f : Floor) (s : ℕ) where
   pub refusal_unsound : sound_of f ≡ false → solo_refusal f s ≡ 6

@@ -3,7 +3,8 @@ use Rattle.std.specs.Prelude.{ℕ, suc, ◌+◌, ◌*◌, ◌≤◌, ◌<◌, �
 use Rattle.suits.specs.declared.Suit.{Suit}
 use Rattle.base.specs.Numbers.{quorum, rank_of}
 use Rattle.commands.specs.Commands.{command_of}
-use Rattle.commands.specs.Outcomes.{number_of, value_of, is_refused}
+use Rattle.base.specs.Refusals.{number_if}
+use Rattle.commands.specs.Outcomes.{number_of, value_of, refusal_said, is_refused}
 use Rattle.commands.specs.declared.Command.TheVariants.{Begin}
 use Rattle.commands.specs.declared.Outcome.TheVariants.{Aborted, Decided}
 use Rattle.attempts.specs.Stations.{is_gone, is_busy}
@@ -88,6 +89,8 @@ pub record SoloClaims : Type 0 where
   -- document 01's number and value of what it says
   pub number : (f : Floor) (s : ℕ) (v : Suit) → number_of (solo_of f s v).outcome ≡ solo_number f s v
   pub value : (f : Floor) (s : ℕ) (v : Suit) → value_of (solo_of f s v).outcome ≡ solo_value f s v
+  -- the refusal that it says by name has that number
+  pub named : (f : Floor) (s : ℕ) (v : Suit) → number_if (refusal_said (solo_of f s v).outcome) ≡ number_of (solo_of f s v).outcome
   -- refused solo finishes too
   pub counted : (f : Floor) (s : ℕ) (v : Suit) → Counted f (plan_of f s v) (solo_of f s v)
   pub ends : (f : Floor) (s : ℕ) (v : Suit) → Lengths f → Ends f s (solo_of f s v)
